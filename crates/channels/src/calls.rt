@@ -1,0 +1,182 @@
+ghost use mathlib.Core.Path.{_≡_};
+ghost use mathlib.Core.Bool.{true, false, cond};
+ghost use Prim.Native.Nat.{ℕ, _+_, _-_, _*_, _%_, _<_, _≤_};
+ghost use lib.Dec.{ltb};
+ghost use lib.ListN.{length, take, drop};
+ghost use Rattle.std.specs.Orderings.{Decides};
+ghost use Rattle.bits.specs.Bits.{bit};
+ghost use Rattle.channels.specs.Sets.{holds, noChannels, put, turned, sizeOf, nextAbove, firstOutside, within, membersOf, Listed, Changed, ViewLaws, MemberLaws};
+use crate::ChannelSet;
+use bits::bit_of;
+use faults::SetFault;
+
+// How many channels there are.
+const CHANNELS: u16 = 1024;
+
+// A word moved up by r bits, with the top r bits of the word below it.
+fn joined(high: u64, low: u64, r: u16) -> u64
+    requires { ⌜ r < 64 ⌝ }
+    ensures { λ w. ⌜ ((k : ℕ) → k < 64 → bit w k ≡ cond (ltb k r) (bit low (k + 64 - r)) (bit high (k - r))) ⌝ }
+{
+    (high << r) | (low >> (63 - r) >> 1)
+}
+
+impl ChannelSet {
+    // A set without channels. The laws of the view `holds` stand here, since all sets begin here.
+    pub fn new() -> ChannelSet
+        ensures empty { λ r. ⌜ r ≡ noChannels ⌝ }
+        ensures view { λ _. ⌜ ViewLaws ⌝ }
+    {
+        ChannelSet { words: [0; 16] }
+    }
+
+    pub fn clear(&mut self)
+        ensures { λ _. ⌜ now (self .exit) ≡ noChannels ⌝ }
+    {
+        *self = ChannelSet::new();
+    }
+
+    // Whether it holds a channel; it holds no number over 1023.
+    pub fn holds(&self, c: u16) -> bool
+        ensures { λ r. ⌜ r ≡ holds (now (self .entry)) c ⌝ }
+    {
+        c < CHANNELS && bit_of(self.words[(c / 64) as usize], (c % 64) as u32)
+    }
+
+    pub fn add(&mut self, c: u16) -> Result<(), SetFault>
+        ensures { λ r. ⌜ Changed c r (now (self .entry)) (put (now (self .entry)) c true) (now (self .exit)) ⌝ }
+    {
+        if c >= CHANNELS {
+            return Err(SetFault::OverRange);
+        }
+        let i = (c / 64) as usize;
+        self.words[i] = self.words[i] | (1 << (c % 64));
+        Ok(())
+    }
+
+    pub fn remove(&mut self, c: u16) -> Result<(), SetFault>
+        ensures { λ r. ⌜ Changed c r (now (self .entry)) (put (now (self .entry)) c false) (now (self .exit)) ⌝ }
+    {
+        if c >= CHANNELS {
+            return Err(SetFault::OverRange);
+        }
+        let i = (c / 64) as usize;
+        self.words[i] = self.words[i] & !(1 << (c % 64));
+        Ok(())
+    }
+
+    // Each channel moved up by d, round the 1024.
+    pub fn shift(&mut self, d: u16) -> Result<(), SetFault>
+        ensures { λ r. ⌜ Changed d r (now (self .entry)) (turned (now (self .entry)) d) (now (self .exit)) ⌝ }
+    {
+        if d >= CHANNELS {
+            return Err(SetFault::OverRange);
+        }
+        let q = (d / 64) as usize;
+        let r = d % 64;
+        let mut moved = [0u64; 16];
+        for i in 0..16usize {
+            moved[i] = joined(
+                self.words[(i + 16 - q) % 16],
+                self.words[(i + 15 - q) % 16],
+                r,
+            );
+        }
+        self.words = moved;
+        Ok(())
+    }
+
+    pub fn size(&self) -> usize
+        ensures { λ r. ⌜ r ≡ sizeOf (now (self .entry)) ⌝ }
+    {
+        let mut n: usize = 0;
+        for i in 0..16usize {
+            n += self.words[i].count_ones() as usize;
+        }
+        n
+    }
+
+    // The lowest channel above n; none for every n from 1023 up.
+    pub fn next_above(&self, n: u16) -> Option<u16>
+        ensures { λ r. ⌜ r ≡ nextAbove (now (self .entry)) n ⌝ }
+    {
+        if n >= CHANNELS - 1 {
+            return None;
+        }
+        let from = n + 1;
+        let at = from / 64;
+        let skip = from % 64;
+        let w = self.words[at as usize] >> skip << skip;
+        if w != 0 {
+            return Some(64 * at + w.trailing_zeros() as u16);
+        }
+        for i in at + 1..16u16 {
+            let w = self.words[i as usize];
+            if w != 0 {
+                return Some(64 * i + w.trailing_zeros() as u16);
+            }
+        }
+        None
+    }
+
+    // The lowest channel that `allowed` has not.
+    pub fn lowest_outside(&self, allowed: &ChannelSet) -> Option<u16>
+        ensures { λ r. ⌜ r ≡ firstOutside (now (self .entry)) (now (allowed .entry)) ⌝ }
+    {
+        for i in 0..16u16 {
+            let w = self.words[i as usize] & !allowed.words[i as usize];
+            if w != 0 {
+                return Some(64 * i + w.trailing_zeros() as u16);
+            }
+        }
+        None
+    }
+
+    pub fn is_within(&self, allowed: &ChannelSet) -> bool
+        ensures { λ r. ⌜ r ≡ within (now (self .entry)) (now (allowed .entry)) ⌝ }
+    {
+        self.lowest_outside(allowed).is_none()
+    }
+
+    // Writes the channels of word i behind the first n of `out`.
+    fn list_word(&self, i: usize, n: usize, out: &mut [u16; 1024]) -> usize
+        requires { ⌜ i < 16 ⌝ ∗ ⌜ Listed (now self) (64 * i) n (now out) ⌝ }
+        ensures listed { λ r. ⌜ Listed (now (self .entry)) (64 * (i + 1)) r (now (out .exit)) ⌝ }
+        ensures rest { λ r. ⌜ drop r (now (out .exit)) ≡ drop r (now (out .entry)) ⌝ }
+    {
+        let mut n = n;
+        let mut w = self.words[i];
+        while w != 0 {
+            out[n] = 64 * i as u16 + w.trailing_zeros() as u16;
+            n += 1;
+            w &= w - 1;
+        }
+        n
+    }
+
+    // Writes the channels, rising, to the front of `out`, and says how many there are. What such a list is, is said by
+    // the laws that stand here with it.
+    pub fn members(&self, out: &mut [u16; 1024]) -> usize
+        ensures count { λ r. ⌜ r ≡ sizeOf (now (self .entry)) ⌝ }
+        ensures front { λ r. ⌜ take r (now (out .exit)) ≡ membersOf (now (self .entry)) ⌝ }
+        ensures rest { λ r. ⌜ drop r (now (out .exit)) ≡ drop r (now (out .entry)) ⌝ }
+        ensures laws { λ _. ⌜ MemberLaws ⌝ }
+    {
+        let mut n: usize = 0;
+        for i in 0..16usize {
+            n = self.list_word(i, n, out);
+        }
+        n
+    }
+}
+
+// Equal sets are equal values.
+pub impl PartialEq<ChannelSet> for ChannelSet as ChannelSetPartialEq {
+    ghost equals = { λ a b r. Decides r (a ≡ b) };
+
+    fn eq(&self, other: &ChannelSet) -> bool {
+        self.words == other.words
+    }
+}
+
+pub impl Eq for ChannelSet as ChannelSetEq {}
