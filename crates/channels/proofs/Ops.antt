@@ -1,23 +1,25 @@
 -- What a call leaves in a set.
 use mathlib.Core.Path.{_≡_, refl, sym, _∙_, ap, ap₂, subst}
-use mathlib.Core.Bool.{Bool, true, false, cond, not, _&&_}
+use mathlib.Core.Bool.{Bool, true, false, cond, not, _&&_, _||_}
 use mathlib.Core.List.{List, [], _∷_, _++_}
 use mathlib.Core.Logic.{_⊎_, inl, inr, ⊎-elim}
 use Prim.Native.Nat.{ℕ, suc, _+_, _-_, _*_, _/_, _%_, _^_, _<_, _≤_}
 use native.Mathlib.Omega.{arith}
 use lib.Bits.{bitAnd, bitOr}
-use lib.Dec.{eqb, ltb}
+use lib.Dec.{eqb, leb, ltb}
+use lib.Pow.{pow-mono}
+use native.Mathlib.Nat.{div-eq-of-lt}
 use lib.ListN.{length, getD, set, replicate, take, drop}
 use Rattle.bits.specs.Bits.{bit, bitIn, Fit, tally, rising}
-use Rattle.bits.proofs.Digits.{bit-added, bit-taken, bit-without, bit-skipped, bit-zero, bit-cleared, Low, trailing-low, tally-le, length-rising, rising-gap, rising-next}
+use Rattle.bits.proofs.Digits.{bit-or, bit-past, bit-mod, bit-shr, bit-shl-low, bit-shl-high, bit-added, bit-taken, bit-without, bit-skipped, bit-zero, bit-cleared, Low, trailing-low, tally-le, length-rising, rising-gap, rising-next}
 use lib.Count.{ones, trailingZeros}
 use Rattle.std.proofs.shelf.Bits.{and-le-l}
 use Rattle.std.proofs.shelf.Lists.{take-more-set, drop-set-lt, drop-drop, length-set, length-push}
-use Rattle.bits.proofs.Lists.{in-put, in-none, in-at, in-set-same, in-set-other, tally-words}
+use Rattle.bits.proofs.Lists.{in-put, in-split, in-none, in-at, in-set-same, in-set-other, tally-words}
 use Rattle.channels.specs.declared.ChannelSet.{ChannelSet}
 use Rattle.channels.specs.Sets.{holds, setOf, noChannels, put, turned, above, strays, Listed}
 use Rattle.channels.proofs.Views.{set-is, holds-bits}
-use Rattle.std.proofs.shelf.Tests.{cases-lt, lt-ltb, le-ltb, cond-true, cond-false, and-left, both-ways}
+use Rattle.std.proofs.shelf.Tests.{cases-lt, cases-eq, lt-ltb, le-ltb, le-leb, lt-leb, eq-eqb, ne-eqb, cond-true, cond-false, and-left, and-right, both-ways}
 
 pub none-is : (s : ChannelSet) → s .words ≡ replicate 16 0 → s ≡ noChannels
 none-is s e = set-is s (λ _. false) (λ c l. holds-bits s c ∙ ap (λ ws. bitIn ws c) e ∙ in-none 16 c)
@@ -60,6 +62,99 @@ above-first s n b l =
     (λ h. above-here s n (64 * ((n + 1) / 64) + b) (omega arith) ∙ holds-word s i b l ∙ sym (cond-false (ltb b r) false (bit w b) (le-ltb b r h)))
     (cases-lt b r)
     ∙ sym (bit-skipped w r b (omega arith) l)
+
+pub or-false : (x y : Bool) → y ≡ false → (x || y) ≡ x
+or-false true y e = refl
+or-false false y e = e
+
+-- channels put in by a word
+pub or-word : (s r : ChannelSet) (i v : ℕ) → i < 16 → r .words ≡ set (s .words) i (bitOr (getD (s .words) i 0) v)
+    → (c : ℕ) → holds r c ≡ (holds s c || (eqb (c / 64) i && bit v (c % 64)))
+or-word s r i v l e c =
+    let w = s .whole in
+    holds-bits r c ∙ ap (λ ws. bitIn ws c) e
+    ∙ ⊎-elim
+    (λ same.
+    in-set-same (s .words) i (bitOr (getD (s .words) i 0) v) c (omega arith) same ∙ bit-or (getD (s .words) i 0) v (c % 64)
+    ∙ ap₂ (λ x y. x || (y && bit v (c % 64))) (ap (λ j. bit (getD (s .words) j 0) (c % 64)) (sym same) ∙ sym (in-split (s .words) c) ∙ sym (holds-bits s c)) (sym (eq-eqb (c / 64) i same)))
+    (λ other.
+    in-set-other (s .words) i (bitOr (getD (s .words) i 0) v) c other ∙ sym (holds-bits s c)
+    ∙ sym (or-false (holds s c) (eqb (c / 64) i && bit v (c % 64)) (and-left (eqb (c / 64) i) (bit v (c % 64)) (ne-eqb (c / 64) i other))))
+    (cases-eq (c / 64) i)
+
+-- an octet whose lowest bit stands for the channel `from`, as the bits of two words
+module _ (o from c : ℕ) (small : o < 256) where
+  abbrev pub lower : Bool
+  lower = eqb (c / 64) (from / 64) && bit ((o * 2 ^ (from % 64)) % 2 ^ 64) (c % 64)
+
+  abbrev pub upper : Bool
+  upper = eqb (c / 64) (from / 64 + 1) && bit (o / 2 ^ (64 - from % 64)) (c % 64)
+
+  far : 8 ≤ c - from → bit o (c - from) ≡ false
+  far h = bit-past o 8 (c - from) small h
+
+  lower-no : (c / 64 ≡ from / 64 → ⊥) → lower ≡ false
+  lower-no n = and-left (eqb (c / 64) (from / 64)) _ (ne-eqb (c / 64) (from / 64) n)
+
+  upper-no : (c / 64 ≡ from / 64 + 1 → ⊥) → upper ≡ false
+  upper-no n = and-left (eqb (c / 64) (from / 64 + 1)) _ (ne-eqb (c / 64) (from / 64 + 1) n)
+
+  neither : (x : Bool) → x ≡ false → lower ≡ false → upper ≡ false → x ≡ (lower || upper)
+  neither x p q r = p ∙ sym (ap₂ (λ a b. a || b) q r)
+
+  in-lower : c / 64 ≡ from / 64 → (leb from c && bit o (c - from)) ≡ lower
+  in-lower e =
+      let b = c % 64 in
+      let r = from % 64 in
+      let m : bit ((o * 2 ^ r) % 2 ^ 64) b ≡ bit (o * 2 ^ r) b = bit-mod (o * 2 ^ r) 64 b (omega arith) in
+      let t : lower ≡ bit (o * 2 ^ r) b = ap (λ x. x && bit ((o * 2 ^ r) % 2 ^ 64) b) (eq-eqb (c / 64) (from / 64) e) ∙ m in
+      ⊎-elim
+      (λ l. and-left (leb from c) (bit o (c - from)) (lt-leb from c (omega arith)) ∙ sym (t ∙ bit-shl-low o r b l))
+      (λ l. let d : c - from ≡ c % 64 - from % 64 = omega arith in ap₂ (λ x k. x && bit o k) (le-leb from c (omega arith)) d ∙ sym (t ∙ bit-shl-high o r b l))
+      (cases-lt b r)
+
+  in-upper : c / 64 ≡ from / 64 + 1 → (leb from c && bit o (c - from)) ≡ upper
+  in-upper e =
+      let b = c % 64 in
+      let r = from % 64 in
+      let d : 64 - from % 64 + c % 64 ≡ c - from = omega arith in
+      let t : upper ≡ bit o (c - from) = ap (λ x. x && bit (o / 2 ^ (64 - r)) b) (eq-eqb (c / 64) (from / 64 + 1) e) ∙ bit-shr o (64 - r) b ∙ ap (bit o) d in
+      ap (λ x. x && bit o (c - from)) (le-leb from c (omega arith)) ∙ sym t
+
+  pub eight-bits : (leb from c && bit o (c - from)) ≡ (lower || upper)
+  eight-bits =
+      ⊎-elim
+      (λ e. in-lower e ∙ sym (or-false lower upper (upper-no (λ f. omega arith))))
+      (λ n. ⊎-elim
+      (λ e. in-upper e ∙ sym (ap (λ x. x || upper) (lower-no n)))
+      (λ m. neither (leb from c && bit o (c - from))
+      (⊎-elim (λ l. and-left (leb from c) (bit o (c - from)) (lt-leb from c (omega arith))) (λ l. and-right (leb from c) (bit o (c - from)) (far (omega arith))) (cases-lt (c / 64) (from / 64)))
+      (lower-no n) (upper-no m))
+      (cases-eq (c / 64) (from / 64 + 1)))
+      (cases-eq (c / 64) (from / 64))
+
+  -- an octet that does not reach into the next word
+  pub eight-low : from % 64 ≤ 56 → (leb from c && bit o (c - from)) ≡ lower
+  eight-low h =
+      let h : 8 ≤ 64 - from % 64 = omega arith in
+      let p : 2 ^ 8 ≤ 2 ^ (64 - from % 64) = pow-mono h in
+      let z : o / 2 ^ (64 - from % 64) ≡ 0 = div-eq-of-lt (omega arith) in
+      eight-bits ∙ or-false lower upper (and-right (eqb (c / 64) (from / 64 + 1)) (bit (o / 2 ^ (64 - from % 64)) (c % 64)) (ap (λ x. bit x (c % 64)) z ∙ bit-zero (c % 64)))
+
+-- the 64 channels from a number on
+pub window-low : (s : ChannelSet) (from k : ℕ) → from % 64 ≡ 0 → k < 64 → bit (getD (s .words) (from / 64) 0) k ≡ holds s (from + k)
+window-low s from k z l = let e : 64 * (from / 64) + k ≡ from + k = omega arith in sym (holds-word s (from / 64) k l) ∙ ap (holds s) e
+
+pub window-high : (s : ChannelSet) (from k : ℕ) → (from % 64 ≡ 0 → ⊥) → k < 64
+    → cond (ltb k (64 - from % 64)) (bit (getD (s .words) (from / 64) 0) (k + 64 - (64 - from % 64))) (bit (getD (s .words) (from / 64 + 1) 0) (k - (64 - from % 64))) ≡ holds s (from + k)
+window-high s from k n l =
+    let r = 64 - from % 64 in
+    ⊎-elim
+    (λ h. let e : 64 * (from / 64) + (k + 64 - (64 - from % 64)) ≡ from + k = omega arith in
+    cond-true (ltb k r) _ _ (lt-ltb k r h) ∙ sym (holds-word s (from / 64) (k + 64 - r) (omega arith)) ∙ ap (holds s) e)
+    (λ h. let e : 64 * (from / 64 + 1) + (k - (64 - from % 64)) ≡ from + k = omega arith in
+    cond-false (ltb k r) _ _ (le-ltb k r h) ∙ sym (holds-word s (from / 64 + 1) (k - r) (omega arith)) ∙ ap (holds s) e)
+    (cases-lt k r)
 
 -- a set turned by d
 pub turned-word : (s : ChannelSet) (d i b : ℕ) → d < 1024 → i < 16 → b < 64

@@ -1,15 +1,15 @@
 -- Sets by their members.
 use mathlib.Core.Path.{_≡_}
-use mathlib.Core.Bool.{Bool, true, false, not, _&&_, cond}
+use mathlib.Core.Bool.{Bool, true, false, not, _&&_, _||_, cond}
 use mathlib.Core.List.{List}
 use Prim.Native.Nat.{ℕ, _+_, _-_, _%_, _<_, _≤_}
-use lib.Dec.{eqb, ltb}
+use lib.Dec.{eqb, leb, ltb}
 use lib.ListN.{length, getD, take, drop}
 use Rattle.std.specs.Options.{isSome}
 use Rattle.std.specs.declared.option.Option.{Option}
 use Rattle.std.specs.declared.result.Result.{Result}
 use Rattle.std.specs.declared.result.Result.the-variants.{Ok, Err}
-use Rattle.bits.specs.Bits.{bitIn, wordsOf, tally, rising}
+use Rattle.bits.specs.Bits.{bit, bitIn, numberOf, wordsOf, tally, rising}
 use Rattle.bits.specs.Lowest.{lowest}
 use Rattle.bits.proofs.Lists.{length-words, fit-words}
 use Rattle.channels.specs.declared.ChannelSet.{ChannelSet}
@@ -30,6 +30,14 @@ noChannels = setOf (λ _. false)
 -- one channel put in or taken out
 abbrev pub put : ChannelSet → ℕ → Bool → ChannelSet
 put s c b = setOf (λ k. cond (eqb k c) b (holds s k))
+
+-- the channels from + k put in, for which bit k of an octet is set
+abbrev pub putEight : ChannelSet → ℕ → ℕ → ChannelSet
+putEight s from o = setOf (λ k. holds s k || (leb from k && bit o (k - from)))
+
+-- the eight channels from a number on as the bits of an octet, the lowest in the lowest bit
+abbrev pub eightFrom : ChannelSet → ℕ → ℕ
+eightFrom s from = numberOf (λ k. holds s (from + k)) 8
 
 -- each channel moved up by d, round the 1024
 abbrev pub turned : ChannelSet → ℕ → ChannelSet

@@ -1,17 +1,19 @@
 ghost use mathlib.Core.Path.{_≡_};
-ghost use mathlib.Core.Bool.{true, false, cond};
-ghost use Prim.Native.Nat.{ℕ, _+_, _-_, _*_, _%_, _<_, _≤_};
-ghost use lib.Dec.{ltb};
-ghost use lib.ListN.{length, take, drop};
+ghost use mathlib.Core.Bool.{true, false, _&&_, _||_, cond};
+ghost use Prim.Native.Nat.{ℕ, _+_, _-_, _*_, _/_, _%_, _<_, _≤_};
+ghost use lib.Dec.{eqb, ltb};
+ghost use lib.ListN.{length, getD, take, drop};
 ghost use Rattle.std.specs.Orderings.{Decides};
 ghost use Rattle.bits.specs.Bits.{bit};
-ghost use Rattle.channels.specs.Sets.{holds, noChannels, put, turned, sizeOf, nextAbove, firstOutside, within, membersOf, Listed, Changed, ViewLaws, MemberLaws};
+ghost use Rattle.channels.specs.Sets.{holds, noChannels, put, putEight, eightFrom, turned, sizeOf, nextAbove, firstOutside, within, membersOf, Listed, Changed, ViewLaws, MemberLaws};
 use crate::ChannelSet;
 use bits::bit_of;
 use faults::SetFault;
 
 // How many channels there are.
 const CHANNELS: u16 = 1024;
+
+const WORDS: usize = 16;
 
 // A word moved up by r bits, with the top r bits of the word below it.
 fn joined(high: u64, low: u64, r: u16) -> u64
@@ -22,6 +24,34 @@ fn joined(high: u64, low: u64, r: u16) -> u64
 }
 
 impl ChannelSet {
+    // Word i, and nothing past the last.
+    fn word(&self, i: usize) -> u64
+        ensures { λ r. ⌜ r ≡ getD (now (self .entry) .words) i 0 ⌝ }
+    {
+        if i < WORDS { self.words[i] } else { 0 }
+    }
+
+    // The 64 channels from `from` on, the lowest in the lowest bit.
+    fn window(&self, from: u16) -> u64
+        ensures { λ w. ⌜ ((k : ℕ) → k < 64 → bit w k ≡ holds (now (self .entry)) (from + k)) ⌝ }
+    {
+        let i = (from / 64) as usize;
+        let r = from % 64;
+        if r == 0 {
+            self.word(i)
+        } else {
+            joined(self.word(i + 1), self.word(i), 64 - r)
+        }
+    }
+
+    // Adds the channels of word i whose bits are set in w.
+    fn or_word(&mut self, i: usize, w: u64)
+        requires { ⌜ i < 16 ⌝ }
+        ensures { λ _. ⌜ ((c : ℕ) → holds (now (self .exit)) c ≡ (holds (now (self .entry)) c || (eqb (c / 64) i && bit w (c % 64)))) ⌝ }
+    {
+        self.words[i] = self.words[i] | w;
+    }
+
     // A set without channels. The laws of the view `holds` stand here, since all sets begin here.
     pub fn new() -> ChannelSet
         ensures empty { λ r. ⌜ r ≡ noChannels ⌝ }
@@ -63,6 +93,29 @@ impl ChannelSet {
         let i = (c / 64) as usize;
         self.words[i] = self.words[i] & !(1 << (c % 64));
         Ok(())
+    }
+
+    // Adds the channels from + k for which bit k of the octet is set, the lowest being bit 0. All eight have to be channels.
+    pub fn add_eight(&mut self, from: u16, octet: u8) -> Result<(), SetFault>
+        ensures { λ r. ⌜ Changed (from + 7) r (now (self .entry)) (putEight (now (self .entry)) from octet) (now (self .exit)) ⌝ }
+    {
+        if from > CHANNELS - 8 {
+            return Err(SetFault::OverRange);
+        }
+        let i = (from / 64) as usize;
+        let r = from % 64;
+        self.or_word(i, (octet as u64) << r);
+        if r > 56 {
+            self.or_word(i + 1, octet as u64 >> (64 - r));
+        }
+        Ok(())
+    }
+
+    // The eight channels from `from` on as the bits of an octet, the lowest in the lowest bit.
+    pub fn eight_from(&self, from: u16) -> u8
+        ensures { λ r. ⌜ r ≡ eightFrom (now (self .entry)) from ⌝ }
+    {
+        (self.window(from) % 256) as u8
     }
 
     // Each channel moved up by d, round the 1024.

@@ -28,7 +28,8 @@ use Rattle.bits.proofs.Lows.{lowest-none, lowest-some, lowest-is-none}
 use Rattle.faults.specs.declared.FormatFault.the-variants.{Length}
 use Rattle.faults.specs.declared.PileFault.{PileFault}
 use Rattle.faults.specs.declared.PileFault.the-variants.{Format, Unclaimed, Unwritten}
-use Rattle.piles.specs.Laws.{Claim, Reading, Writing, Lawful, Sound, Written, Octets, plain, number}
+use Rattle.piles.specs.Laws.{Claim, Reading, Writing, Lawful, Sound, Written, Octets, number}
+use Rattle.piles.specs.Flagged.{plain}
 use Rattle.piles.specs.Combined.{sized}
 use Rattle.piles.proofs.Calls.{err-ok, err-same, ok-same}
 use Rattle.piles.proofs.Combine.{cond-ok, cond-err, cond-is-true, cond-is-false, sized-true}

@@ -24,7 +24,8 @@ use Rattle.claims.specs.Views.{claims, both, shared}
 use Rattle.faults.specs.declared.FormatFault.the-variants.{Length}
 use Rattle.faults.specs.declared.PileFault.{PileFault}
 use Rattle.faults.specs.declared.PileFault.the-variants.{Format, Unclaimed, SharedClaim, OutsideLicence}
-use Rattle.piles.specs.Laws.{Claim, Reading, Writing, Laws, Meaning, Lawful, Sound, Written, Octets, plain, number}
+use Rattle.piles.specs.Laws.{Claim, Reading, Writing, Laws, Meaning, Lawful, Sound, Written, Octets, number}
+use Rattle.piles.specs.Flagged.{plain}
 use Rattle.piles.proofs.Calls.{err-ok, err-same, ok-same}
 use Rattle.piles.specs.Combined.{claimBy, sized, sideReads, readBy, firstOk, writeBy, within, held, besideOf, licenceOf}
 

@@ -11,6 +11,7 @@ use Rattle.std.specs.shelf.Lists.{All}
 use Rattle.channels.specs.declared.ChannelSet.{ChannelSet}
 use Rattle.faults.specs.declared.PileFault.{PileFault}
 use Rattle.faults.specs.Refusals.{ofPile}
+use Rattle.piles.specs.Flagged.{plain}
 
 -- the number that a refusal tells
 abbrev pub number : PileFault → ℕ
@@ -18,10 +19,6 @@ number f = ofPile f .number
 
 abbrev pub Octets : List ℕ → Type 0
 Octets os = All (λ o. o < 256) os
-
--- an octet with its bits 6 and 5 put to 0
-abbrev pub plain : ℕ → ℕ
-plain o = o / 64 * 64 + o % 16
 
 -- a meaning: the first octets claimed, what contents are read as, what is written for a set at a length
 abbrev pub Claim : Type 0

@@ -1,2 +1,4 @@
 pub mod Laws
 pub mod Combined
+pub mod Flagged
+pub mod Filing

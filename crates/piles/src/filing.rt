@@ -1,48 +1,41 @@
-// The rule by which one list is filed: at the least allowed length at which the pile writes it, with its flags.
+// The rule by which one list is filed: at the least allowed length at which the pile has octets for it, with its flags.
 ghost use mathlib.Core.Path.{_≡_};
-ghost use mathlib.Core.Logic.{_⊎_};
-ghost use Prim.Native.Nat.{_<_, _≤_};
-ghost use Rattle.std.specs.Options.{Cases as BySome};
+ghost use Rattle.piles.specs.Filing.{Shortest, Composes};
+use crate::Pile;
+use crate::flags::Flags;
+use crate::lengths::Lengths;
+use channels::ChannelSet;
+use faults::PileFault;
 
-// The lengths that contents may have: at least one, and none above 130.
-#[derive(Clone, Copy)]
-pub struct Lengths {
-    least: usize,
-    most: usize,
-    ghost some: { least ≤ most },
-    ghost short: { most ≤ 130 },
-}
-
-// Two marks that a neighbour cells description carries in its first octet, and that are 0 in every other list.
-#[derive(Clone, Copy, PartialEq, Eq, Debug)]
-pub struct Flags {
-    // EXT-IND, bit 6: the list is a part of the neighbours only
-    pub extension: bool,
-    // BA-IND, bit 5: which of two lists of the cell this one goes with
-    pub allocation: bool,
-}
-
-impl Lengths {
-    // All lengths from one to another, or none if there are no such or one is over 130.
-    pub fn between(least: usize, most: usize) -> Option<Lengths>
-        ensures { λ r. ⌜ BySome r ((most < least) ⊎ (130 < most)) (λ l. (l .least ≡ least) × (l .most ≡ most)) ⌝ }
-    {
-        if least <= most && most <= crate::MOST {
-            Some(Lengths { least, most })
-        } else {
-            None
+// Writes the set at the least of the lengths at which the pile writes it.
+fn shortest<P: Pile>(
+    pile: &P,
+    set: &ChannelSet,
+    lengths: Lengths,
+    out: &mut [u8; 130],
+) -> Result<usize, PileFault>
+    ensures { λ r. ⌜ Shortest (meaning (now (pile .entry)) .writes (now (set .entry))) (lengths .least) (lengths .most) r (now (out .entry)) (now (out .exit)) ⌝ }
+{
+    for len in lengths.least()..lengths.most() {
+        if let Ok(()) = pile.write(set, len, out) {
+            return Ok(len);
         }
     }
+    pile.write(set, lengths.most(), out)?;
+    Ok(lengths.most())
+}
 
-    pub fn least(&self) -> usize
-        ensures { λ r. ⌜ r ≡ now (self .entry) .least ⌝ }
-    {
-        self.least
-    }
-
-    pub fn most(&self) -> usize
-        ensures { λ r. ⌜ r ≡ now (self .entry) .most ⌝ }
-    {
-        self.most
-    }
+// Composes the contents of a list at the front of `out`, and says how many octets they are.
+pub fn compose<P: Pile>(
+    pile: &P,
+    set: &ChannelSet,
+    lengths: Lengths,
+    flags: Flags,
+    out: &mut [u8; 130],
+) -> Result<usize, PileFault>
+    ensures { λ r. ⌜ Composes (meaning (now (pile .entry))) (now (set .entry)) (lengths .least) (lengths .most) flags r (now (out .entry)) (now (out .exit)) ⌝ }
+{
+    let len = shortest(pile, set, lengths, out)?;
+    out[0] = flags.put_into(out[0]);
+    Ok(len)
 }

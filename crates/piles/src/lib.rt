@@ -2,6 +2,8 @@
 // equipment maker's own is one by showing the same laws.
 pub mod beside;
 pub mod filing;
+pub mod flags;
+pub mod lengths;
 pub mod licence;
 
 ghost use mathlib.Core.Path.{_≡_};

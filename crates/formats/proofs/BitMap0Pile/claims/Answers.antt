@@ -3,7 +3,7 @@ use mathlib.Core.List.{[], _∷_}
 use Rattle.bits.specs.Bits.{bit, bitIn}
 use Rattle.bits.specs.Lowest.{lowest}
 use Rattle.formats.specs.Map.{mapClaim}
-use Rattle.formats.proofs.Agree.{agree}
+use Rattle.bits.proofs.Agree.{agree}
 use Rattle.formats.proofs.BitMap0Pile.claims.Needs as need
 
 pub returns : need.returns
