@@ -6,7 +6,7 @@ use lib.ListN.{length}
 use mathlib.Core.Logic.{_⊎_, inl, inr, ⊎-elim}
 use Prim.Native.Nat.{ℕ, zero, suc, _+_, _-_, _*_, _/_, _%_, _^_, _<_, _≤_, min, max, differ}
 use native.Mathlib.Omega.{arith}
-use native.Mathlib.Nat.{zero-div, div-eq-of-lt, mul-left-comm, mul-assoc, mul-comm, add-mul, one-mul, mod-self, add-zero, add-suc}
+use native.Mathlib.Nat.{mod-le, zero-div, div-eq-of-lt, mul-left-comm, mul-assoc, mul-comm, add-mul, one-mul, mod-self, add-zero, add-suc}
 use native.Mathlib.Numerals.{one-add, add-one}
 use lib.Bits.{bitAnd, bitOr, bitXor, and-step, or-step, xor-step, and-self, and-block, and-mask}
 use lib.Count.{ones, ones-step, trailingZeros, under, trailing-le}
@@ -185,6 +185,14 @@ bit-shl-low a (suc r) zero h = even-low (a * 2 ^ suc r) (omega (arith, shl-twice
 bit-shl-low a (suc r) (suc b) h =
     let e : a * 2 ^ suc r / 2 ≡ a * 2 ^ r = omega (arith, shl-twice a r) in
     bit-next (a * 2 ^ suc r) b ∙ ap (λ x. bit x b) e ∙ bit-shl-low a r b (omega arith)
+
+-- a number without bits from m on is below 2 ^ m
+pub bits-below : (n m x : ℕ) → x < 2 ^ n → ((k : ℕ) → m ≤ k → k < n → bit x k ≡ false) → x < 2 ^ m
+bits-below n m x h f =
+    let low : x % 2 ^ m < 2 ^ m = mod-below x (2 ^ m) (pow-pos m) in
+    let same : x ≡ x % 2 ^ m = bits-same n x (x % 2 ^ m) h (omega (arith, mod-le x (2 ^ m)))
+        (λ k l. ⊎-elim (λ a. sym (bit-mod x m k a)) (λ a. f k a l ∙ sym (bit-past (x % 2 ^ m) m k low a)) (cases-lt k m)) in
+    omega arith
 
 -- the complement of a word
 pub bit-not : (n x k : ℕ) → x < 2 ^ n → k < n → bit (2 ^ n - 1 - x) k ≡ not (bit x k)

@@ -14,8 +14,11 @@ use Rattle.bits.specs.Bits.{bitIn, Fit, tally}
 use Rattle.bits.proofs.Digits.{length-rising}
 use Rattle.bits.proofs.Rises.{rising-in, rising-up, rising-has}
 use Rattle.bits.proofs.Lists.{in-words, in-past, same-words}
+use Rattle.std.specs.declared.result.Result.{Result}
+use Rattle.std.specs.declared.result.Result.the-variants.{Ok, Err}
+use Rattle.faults.specs.declared.SetFault.{SetFault}
 use Rattle.channels.specs.declared.ChannelSet.{ChannelSet}
-use Rattle.channels.specs.Sets.{holds, setOf, noChannels, put, ViewLaws, MemberLaws}
+use Rattle.channels.specs.Sets.{holds, setOf, noChannels, put, Changed, ViewLaws, MemberLaws}
 use Rattle.std.proofs.shelf.Tests.{cases-lt, cond-false, ne-eqb, both-ways}
 
 fit-prop : (ws : List ℕ) (p q : Fit ws) → p ≡ q
@@ -73,3 +76,8 @@ member-laws = record {
   rise = λ s i j l h. rising-up (holds s) 1024 i j l h;
   there = λ s c t. let p = rising-has (holds s) 1024 c (below s c t) t in (tally (holds s) c, p .0, p .1);
 }
+
+-- what a call that is not refused leaves
+pub changed : (c : ℕ) (r : Result (Unit {0}) SetFault) (before wanted after : ChannelSet) → c ≤ 1023 → Changed c r before wanted after → after ≡ wanted
+changed c (Ok u) before wanted after h e = e .1
+changed c (Err f) before wanted after h e = absurd (omega (arith, e .0))

@@ -4,6 +4,8 @@ use mathlib.Core.Bool.{Bool}
 use mathlib.Core.List.{List, _++_}
 use Prim.Native.Nat.{ℕ}
 use native.Mathlib.Omega.{arith}
+use Rattle.std.specs.declared.option.Option.{Option}
+use Rattle.std.specs.declared.option.Option.the-variants.{Some, None}
 use Rattle.std.specs.declared.result.Result.{Result}
 use Rattle.std.specs.declared.result.Result.the-variants.{Ok, Err}
 use Rattle.channels.specs.declared.ChannelSet.{ChannelSet}
@@ -17,3 +19,6 @@ err-same e = cc
 
 pub ok-same : {X : Type 0} {x y : X} → _≡_ {A = Result X PileFault} (Ok x) (Ok y) → x ≡ y
 ok-same e = cc
+
+pub some-none : {X : Type 0} {o : Option X} {x : X} → o ≡ Some x → o ≡ None → ⊥
+some-none p q = let z : _≡_ {A = ℕ} 0 1 = cc in omega arith

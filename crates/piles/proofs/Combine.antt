@@ -24,10 +24,10 @@ use Rattle.claims.specs.Views.{claims, both, shared}
 use Rattle.faults.specs.declared.FormatFault.the-variants.{Length}
 use Rattle.faults.specs.declared.PileFault.{PileFault}
 use Rattle.faults.specs.declared.PileFault.the-variants.{Format, Unclaimed, SharedClaim, OutsideLicence}
-use Rattle.piles.specs.Laws.{Claim, Reading, Writing, Laws, Meaning, Lawful, Sound, Written, Octets, number}
+use Rattle.piles.specs.Laws.{sized, Claim, Reading, Writing, Laws, Meaning, Lawful, Sound, Written, Octets, number}
 use Rattle.piles.specs.Flagged.{plain}
-use Rattle.piles.proofs.Calls.{err-ok, err-same, ok-same}
-use Rattle.piles.specs.Combined.{claimBy, sized, sideReads, readBy, firstOk, writeBy, within, held, besideOf, licenceOf}
+use Rattle.piles.proofs.Calls.{err-ok, err-same, ok-same, some-none}
+use Rattle.piles.specs.Combined.{claimBy, sideReads, readBy, firstOk, writeBy, within, held, besideOf, licenceOf}
 
 -- what a cond is, by its test
 module _ {X : Type 0} where
@@ -195,9 +195,6 @@ module _ (allowed : ChannelSet) (f : Claim) (rp : Reading) (wp : Writing) (P : L
   within-err : (o : Option ℕ) (r : Result (List ℕ) PileFault) (h : PileFault) → within o r ≡ Err h → ((o ≡ None) × (r ≡ Err h)) ⊎ ((c : ℕ) × (o ≡ Some c) × (number h ≡ 6))
   within-err (Some c) r h e = inr (c, refl, ap number (sym (err-same e)))
   within-err None r h e = inl (refl, e)
-
-  some-none : {o : Option ℕ} {c : ℕ} → o ≡ Some c → o ≡ None → ⊥
-  some-none p q = let z : _≡_ {A = ℕ} 0 1 = cc in omega arith
 
   pub licence-lawful : Laws f (λ os. held allowed (rp os)) (λ s L. within (firstOutside s allowed) (wp s L))
   licence-lawful = record {

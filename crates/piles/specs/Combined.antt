@@ -2,7 +2,6 @@
 use mathlib.Core.Bool.{Bool, true, false, not, _&&_, _||_, cond}
 use mathlib.Core.List.{List}
 use Prim.Native.Nat.{ℕ}
-use lib.Dec.{ltb}
 use lib.ListN.{length, getD}
 use Rattle.std.specs.declared.option.Option.{Option}
 use Rattle.std.specs.declared.option.Option.the-variants.{Some, None}
@@ -14,15 +13,11 @@ use Rattle.claims.specs.Views.{shared}
 use Rattle.faults.specs.declared.FormatFault.the-variants.{Length}
 use Rattle.faults.specs.declared.PileFault.{PileFault}
 use Rattle.faults.specs.declared.PileFault.the-variants.{Format, Unclaimed, SharedClaim, OutsideLicence}
-use Rattle.piles.specs.Laws.{Claim, Reading, Writing, Meaning}
+use Rattle.piles.specs.Laws.{sized, Claim, Reading, Writing, Meaning}
 
 abbrev pub claimBy : Option ℕ → Claim → Claim → Claim
 claimBy (Some k) f g o = false
 claimBy None f g o = f o || g o
-
--- 1 to 130 octets
-abbrev pub sized : ℕ → Bool
-sized n = ltb 0 n && ltb n 131
 
 abbrev pub sideReads : Claim → Claim → Reading → Reading → Reading
 sideReads f g ra rb os = cond (f (getD os 0 0)) (ra os) (cond (g (getD os 0 0)) (rb os) (Err Unclaimed))

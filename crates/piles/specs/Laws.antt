@@ -1,8 +1,9 @@
 -- What a pile means, and the laws that it keeps.
 use mathlib.Core.Path.{_≡_}
-use mathlib.Core.Bool.{Bool, true, false}
+use mathlib.Core.Bool.{Bool, true, false, _&&_}
 use mathlib.Core.List.{List, [], _∷_, _++_}
 use Prim.Native.Nat.{ℕ, _+_, _*_, _/_, _%_, _<_, _≤_}
+use lib.Dec.{ltb}
 use lib.ListN.{length, getD, take, drop}
 use Rattle.std.specs.declared.result.Result.{Result}
 use Rattle.std.specs.declared.result.Result.the-variants.{Ok, Err}
@@ -16,6 +17,10 @@ use Rattle.piles.specs.Flagged.{plain}
 -- the number that a refusal tells
 abbrev pub number : PileFault → ℕ
 number f = ofPile f .number
+
+-- contents have 1 to 130 octets
+abbrev pub sized : ℕ → Bool
+sized n = ltb 0 n && ltb n 131
 
 abbrev pub Octets : List ℕ → Type 0
 Octets os = All (λ o. o < 256) os

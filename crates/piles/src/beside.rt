@@ -1,11 +1,10 @@
 ghost use mathlib.Core.Path.{_≡_};
-ghost use mathlib.Core.Bool.{cond};
 ghost use Prim.Native.Nat.{ℕ, _<_};
 ghost use Rattle.std.specs.declared.result.Result.the-variants.{Ok, Err};
 ghost use Rattle.claims.specs.Views.{claims, shared};
-ghost use Rattle.piles.specs.Combined.{sized, besideOf};
+ghost use Rattle.piles.specs.Combined.{besideOf};
 use crate::Pile;
-use faults::FormatFault;
+use crate::first_octet;
 use faults::PileFault;
 use faults::PileFaultFromFormat;
 use channels::ChannelSet;
@@ -34,17 +33,6 @@ fn claims_one<P: Pile>(p: &P, o: u8) -> bool
     c.has(o)
 }
 
-// 1 to 130 octets.
-fn check_length(n: usize) -> Result<(), FormatFault>
-    ensures { λ r. ⌜ r ≡ cond (sized n) (Ok tt) (Err FormatFault.Length) ⌝ }
-{
-    if n == 0 || n > 130 {
-        Err(FormatFault::Length)
-    } else {
-        Ok(())
-    }
-}
-
 pub impl<A: Pile, B: Pile> Pile for Beside<A, B> as BesidePile {
     ghost meaning = { λ p. besideOf (A·Pile .meaning (p .first)) (B·Pile .meaning (p .second)) };
 
@@ -61,11 +49,11 @@ pub impl<A: Pile, B: Pile> Pile for Beside<A, B> as BesidePile {
         if let Some(o) = clash(&self.first, &self.second) {
             return Err(PileFault::SharedClaim(o));
         }
-        check_length(contents.len())?;
-        if claims_one(&self.first, contents[0]) {
+        let first = first_octet(contents)?;
+        if claims_one(&self.first, first) {
             return self.first.read(contents, set);
         }
-        if claims_one(&self.second, contents[0]) {
+        if claims_one(&self.second, first) {
             return self.second.read(contents, set);
         }
         Err(PileFault::Unclaimed)

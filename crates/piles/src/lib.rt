@@ -7,13 +7,16 @@ pub mod lengths;
 pub mod licence;
 
 ghost use mathlib.Core.Path.{_≡_};
-ghost use mathlib.Core.Bool.{Bool, true, false};
+ghost use mathlib.Core.Bool.{Bool, true, false, cond};
 ghost use mathlib.Core.List.{List};
 ghost use Prim.Native.Nat.{ℕ, _+_, _<_, _≤_};
+ghost use lib.ListN.{length, getD};
+ghost use Rattle.std.specs.declared.result.Result.the-variants.{Ok, Err};
 ghost use Rattle.claims.specs.Views.{claims};
-ghost use Rattle.piles.specs.Laws.{Meaning, Lawful, Filled, Put};
+ghost use Rattle.piles.specs.Laws.{sized, Meaning, Lawful, Filled, Put};
 use channels::ChannelSet;
 use claims::Claims;
+use faults::FormatFault;
 use faults::PileFault;
 
 // The most octets that the contents of a list have.
@@ -36,4 +39,14 @@ pub trait Pile {
     // Writes the set to the first `len` octets; the others stand, and a refusal leaves all.
     fn write(&self, set: &ChannelSet, len: usize, out: &mut [u8; 130]) -> Result<(), PileFault>
         ensures { λ r. ⌜ Put (meaning (now (self .entry)) .writes (now (set .entry)) len) len r (now (out .entry)) (now (out .exit)) ⌝ };
+}
+
+// The first of 1 to 130 octets. Every reading looks at this before it looks at claims.
+pub fn first_octet(contents: &[u8]) -> Result<u8, FormatFault>
+    ensures { λ r. ⌜ r ≡ cond (sized (length (now (contents .entry)))) (Ok (getD (now (contents .entry)) 0 0)) (Err FormatFault.Length) ⌝ }
+{
+    match contents {
+        [first, ..] if contents.len() <= MOST => Ok(*first),
+        _ => Err(FormatFault::Length),
+    }
 }

@@ -2,9 +2,9 @@ use mathlib.Core.Path.{refl, _∙_}
 use mathlib.Core.List.{[], _∷_}
 use Rattle.bits.specs.Bits.{bit, bitIn}
 use Rattle.bits.specs.Lowest.{lowest}
-use Rattle.formats.specs.Map.{mapClaim}
 use Rattle.bits.proofs.Agree.{agree}
-use Rattle.formats.proofs.BitMap0Pile.claims.Needs as need
+use Rattle.formats.specs.BitMap0.{mapClaim}
+use Rattle.formats.proofs.bitmap0.BitMap0Pile.claims.Needs as need
 
 pub returns : need.returns
 unfolding lowest bitIn bit
