@@ -191,7 +191,7 @@ pub bits-below : (n m x : ℕ) → x < 2 ^ n → ((k : ℕ) → m ≤ k → k < 
 bits-below n m x h f =
     let low : x % 2 ^ m < 2 ^ m = mod-below x (2 ^ m) (pow-pos m) in
     let same : x ≡ x % 2 ^ m = bits-same n x (x % 2 ^ m) h (omega (arith, mod-le x (2 ^ m)))
-        (λ k l. ⊎-elim (λ a. sym (bit-mod x m k a)) (λ a. f k a l ∙ sym (bit-past (x % 2 ^ m) m k low a)) (cases-lt k m)) in
+    (λ k l. ⊎-elim (λ a. sym (bit-mod x m k a)) (λ a. f k a l ∙ sym (bit-past (x % 2 ^ m) m k low a)) (cases-lt k m)) in
     omega arith
 
 -- the complement of a word

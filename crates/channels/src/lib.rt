@@ -7,6 +7,9 @@ ghost use Rattle.bits.specs.Bits.{Fit};
 // The calls stand below the struct, since definitions that name it cannot be imported where it is declared.
 mod calls;
 
+pub use calls::ChannelSetEq;
+pub use calls::ChannelSetPartialEq;
+
 #[derive(Clone, Copy, Debug)]
 pub struct ChannelSet {
     words: [u64; 16],

@@ -5,10 +5,10 @@ ghost use Rattle.claims.specs.Views.{claims, shared};
 ghost use Rattle.piles.specs.Combined.{besideOf};
 use crate::Pile;
 use crate::first_octet;
-use faults::PileFault;
-use faults::PileFaultFromFormat;
 use channels::ChannelSet;
 use claims::Claims;
+use faults::PileFault;
+use faults::PileFaultFromFormat;
 
 // Two piles beside one another.
 #[derive(Drop)]

@@ -1,9 +1,9 @@
 ghost use mathlib.Core.Path.{_≡_};
 ghost use Rattle.piles.specs.Combined.{licenceOf};
 use crate::Pile;
-use faults::PileFault;
 use channels::ChannelSet;
 use claims::Claims;
+use faults::PileFault;
 
 // A pile held to the channels of a set.
 #[derive(Drop)]

@@ -18,16 +18,20 @@ returns-then-r-gt56 c =
     let s = c .args .self .now in
     let from = c .args .from in
     let o = c .args .octet in
-    let small : o < 256 = omega arith in
-    (omega arith, set-is _ (λ k. holds s k || (leb from k && bit o (k - from))) (λ k l.
-    c .or-word-then-r-gt56 .ensures k ∙ ap (λ x. x || upper o from k small) (c .or-word .ensures k)
-    ∙ or-assoc (holds s k) (lower o from k small) (upper o from k small) ∙ ap (λ x. holds s k || x) (sym (eight-bits o from k small))))
+    let small : o < 256 = omega arith in (
+      omega arith,
+      set-is _ (λ k. holds s k || (leb from k && bit o (k - from))) (λ k l.
+          c .or-word-then-r-gt56 .ensures k ∙ ap (λ x. x || upper o from k small) (c .or-word .ensures k)
+          ∙ or-assoc (holds s k) (lower o from k small) (upper o from k small) ∙ ap (λ x. holds s k || x) (sym (eight-bits o from k small))),
+    )
 
 pub returns-else-r-gt56 : need.returns-else-r-gt56
 returns-else-r-gt56 c =
     let s = c .args .self .now in
     let from = c .args .from in
     let o = c .args .octet in
-    let small : o < 256 = omega arith in
-    (omega arith, set-is _ (λ k. holds s k || (leb from k && bit o (k - from))) (λ k l.
-    c .or-word .ensures k ∙ ap (λ x. holds s k || x) (sym (eight-low o from k small (c .if-r-gt56 .left)))))
+    let small : o < 256 = omega arith in (
+      omega arith,
+      set-is _ (λ k. holds s k || (leb from k && bit o (k - from))) (λ k l.
+          c .or-word .ensures k ∙ ap (λ x. holds s k || x) (sym (eight-low o from k small (c .if-r-gt56 .left)))),
+    )
