@@ -212,6 +212,10 @@ bit-not (suc n) x (suc k) h l =
     let e : (2 ^ suc n - 1 - x) / 2 ≡ 2 ^ n - 1 - x / 2 = omega arith in
     bit-next (2 ^ suc n - 1 - x) k ∙ ap (λ y. bit y k) e ∙ bit-not n (x / 2) k (omega arith) (omega arith) ∙ ap not (sym (bit-next x k))
 
+-- a word of ones
+pub ones-bit : (k : ℕ) → k < 64 → bit 18446744073709551615 k ≡ true
+ones-bit k h = bit-not 64 0 k (omega arith) h ∙ ap not (bit-zero k)
+
 -- the lowest bit that is set
 pub record Low (n w t : ℕ) : Type 0 where
   pub below : t < n

@@ -11,18 +11,27 @@ use lib.Pow.{pow-mono}
 use native.Mathlib.Nat.{div-eq-of-lt}
 use lib.ListN.{length, getD, set, replicate, take, drop}
 use Rattle.bits.specs.Bits.{bit, bitIn, Fit, tally, rising}
-use Rattle.bits.proofs.Digits.{bit-or, bit-past, bit-mod, bit-shr, bit-shl-low, bit-shl-high, bit-added, bit-taken, bit-without, bit-skipped, bit-zero, bit-cleared, Low, trailing-low, tally-le, length-rising, rising-gap, rising-next}
+use Rattle.bits.proofs.Digits.{bits-same, bit-number, number-below, bit-or, bit-past, bit-mod, bit-shr, bit-shl-low, bit-shl-high, bit-added, bit-taken, bit-without, bit-skipped, bit-zero, bit-cleared, Low, trailing-low, tally-le, length-rising, rising-gap, rising-next}
 use lib.Count.{ones, trailingZeros}
 use Rattle.std.proofs.shelf.Bits.{and-le-l}
-use Rattle.std.proofs.shelf.Lists.{take-more-set, drop-set-lt, drop-drop, length-set, length-push}
+use Rattle.std.proofs.shelf.Lists.{getD-replicate, take-more-set, drop-set-lt, drop-drop, length-set, length-push}
 use Rattle.bits.proofs.Lists.{in-put, in-split, in-none, in-at, in-set-same, in-set-other, tally-words}
 use Rattle.channels.specs.declared.ChannelSet.{ChannelSet}
-use Rattle.channels.specs.Sets.{holds, setOf, noChannels, put, turned, above, strays, Listed}
-use Rattle.channels.proofs.Views.{set-is, holds-bits}
+use Rattle.channels.specs.Sets.{holds, setOf, noChannels, eightFrom, put, turned, above, strays, Listed}
+use Rattle.channels.proofs.Views.{set-is, holds-bits, holds-past}
 use Rattle.std.proofs.shelf.Tests.{cases-lt, cases-eq, lt-ltb, le-ltb, le-leb, lt-leb, eq-eqb, ne-eqb, cond-true, cond-false, and-left, and-right, both-ways}
 
-pub none-is : (s : ChannelSet) → s .words ≡ replicate 16 0 → s ≡ noChannels
-none-is s e = set-is s (λ _. false) (λ c l. holds-bits s c ∙ ap (λ ws. bitIn ws c) e ∙ in-none 16 c)
+-- all channels, or none
+pub filled-is : (s : ChannelSet) (w : ℕ) (x : Bool) → s .words ≡ replicate 16 w → ((k : ℕ) → k < 64 → bit w k ≡ x) → s ≡ setOf (λ _. x)
+filled-is s w x e h =
+    set-is s (λ _. x)
+    (λ c l. holds-bits s c ∙ ap (λ ws. bitIn ws c) e ∙ in-split (replicate 16 w) c ∙ ap (λ v. bit v (c % 64)) (getD-replicate 16 (c / 64) w 0 (omega arith)) ∙ h (c % 64) (omega arith))
+
+-- past the channels there are none
+pub none-past : (s : ChannelSet) (from : ℕ) → 1024 ≤ from → 0 ≡ eightFrom s from
+none-past s from h =
+    bits-same 8 0 (eightFrom s from) (omega arith) (number-below (λ k. holds s (from + k)) 8)
+    (λ k l. bit-zero k ∙ sym (bit-number (λ k. holds s (from + k)) 8 k l ∙ holds-past s (from + k) (omega arith)))
 
 pub put-is : (s r : ChannelSet) (c v : ℕ) (x : Bool) → c < 1024 → r .words ≡ set (s .words) (c / 64) v
     → ((b : ℕ) → b < 64 → bit v b ≡ cond (eqb b (c % 64)) x (bit (getD (s .words) (c / 64) 0) b)) → r ≡ put s c x

@@ -27,6 +27,9 @@ setOf f = record { words = wordsOf f 16; whole = length-words f 16; fits = fit-w
 abbrev pub noChannels : ChannelSet
 noChannels = setOf (λ _. false)
 
+abbrev pub allChannels : ChannelSet
+allChannels = setOf (λ _. true)
+
 -- one channel put in or taken out
 abbrev pub put : ChannelSet → ℕ → Bool → ChannelSet
 put s c b = setOf (λ k. cond (eqb k c) b (holds s k))

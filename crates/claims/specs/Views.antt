@@ -2,13 +2,13 @@
 use mathlib.Core.Bool.{Bool, _&&_}
 use Prim.Native.Nat.{ℕ}
 use Rattle.std.specs.declared.option.Option.{Option}
-use Rattle.bits.specs.Bits.{bitIn}
+use Rattle.bits.specs.Bits.{bitWithin}
 use Rattle.bits.specs.Lowest.{lowest}
 use Rattle.claims.specs.declared.Claims.{Claims}
 
 -- whether an octet is claimed: none from 256 on
-unfoldable pub claims : Claims → ℕ → Bool
-claims x o = bitIn (x .words) o
+abbrev pub claims : Claims → ℕ → Bool
+claims x o = bitWithin (x .words) o
 
 -- the lowest first octet that two tests pass
 abbrev pub both : (ℕ → Bool) → (ℕ → Bool) → ℕ → Bool

@@ -1,16 +1,39 @@
 ghost use mathlib.Core.Path.{_≡_};
 ghost use mathlib.Core.Bool.{true, false, _||_};
-ghost use mathlib.Core.List.{List, [], _∷_};
+ghost use mathlib.Core.List.{[], _∷_};
 ghost use Prim.Native.Nat.{ℕ, _<_};
-ghost use Rattle.bits.specs.Bits.{bitIn};
+ghost use lib.ListN.{length, getD};
+ghost use Rattle.bits.specs.Bits.{bit, Fit, bitWithin};
 ghost use Rattle.claims.specs.Views.{claims, shared};
 use crate::Claims;
 use bits::bit_of;
 
+// Every bit of a word.
+const ALL: u64 = 0xFFFFFFFFFFFFFFFF;
+
+// The words of two sets, bit by bit.
+fn either(a: &[u64; 4], b: &[u64; 4]) -> [u64; 4]
+    requires { ⌜ Fit (now a) ⌝ ∗ ⌜ Fit (now b) ⌝ }
+    ensures fit { λ r. ⌜ Fit r ⌝ }
+    ensures bits { λ r. ⌜ ((i k : ℕ) → bit (getD r i 0) k ≡ (bit (getD (now (a .entry)) i 0) k || bit (getD (now (b .entry)) i 0) k)) ⌝ }
+{
+    [a[0] | b[0], a[1] | b[1], a[2] | b[2], a[3] | b[3]]
+}
+
 impl Claims {
+    // All octets, or none.
+    fn filled(all: bool) -> Claims
+        ensures { λ r. ⌜ ((o : ℕ) → o < 256 → claims r o ≡ all) ⌝ }
+    {
+        if all {
+            return Claims { words: [ALL; 4] };
+        }
+        Claims { words: [0; 4] }
+    }
+
     // The octets whose bits are set in four words, the lowest first.
     pub fn of(a: u64, b: u64, c: u64, d: u64) -> Claims
-        ensures { λ r. ⌜ ((o : ℕ) → claims r o ≡ bitIn (a ∷ b ∷ c ∷ d ∷ []) o) ⌝ }
+        ensures { λ r. ⌜ ((o : ℕ) → claims r o ≡ bitWithin (a ∷ b ∷ c ∷ d ∷ []) o) ⌝ }
     {
         Claims {
             words: [a, b, c, d],
@@ -18,9 +41,15 @@ impl Claims {
     }
 
     pub fn none() -> Claims
-        ensures { λ r. ⌜ ((o : ℕ) → claims r o ≡ false) ⌝ }
+        ensures { λ r. ⌜ ((o : ℕ) → o < 256 → claims r o ≡ false) ⌝ }
     {
-        Claims { words: [0; 4] }
+        Claims::filled(false)
+    }
+
+    pub fn all() -> Claims
+        ensures { λ r. ⌜ ((o : ℕ) → o < 256 → claims r o ≡ true) ⌝ }
+    {
+        Claims::filled(true)
     }
 
     pub fn has(&self, o: u8) -> bool
@@ -34,12 +63,7 @@ impl Claims {
         ensures { λ r. ⌜ ((o : ℕ) → claims r o ≡ (claims (now (self .entry)) o || claims (now (other .entry)) o)) ⌝ }
     {
         Claims {
-            words: [
-                self.words[0] | other.words[0],
-                self.words[1] | other.words[1],
-                self.words[2] | other.words[2],
-                self.words[3] | other.words[3],
-            ],
+            words: either(&self.words, &other.words),
         }
     }
 
@@ -47,21 +71,11 @@ impl Claims {
     pub fn common(&self, other: &Claims) -> Option<u8>
         ensures { λ r. ⌜ r ≡ shared (claims (now (self .entry))) (claims (now (other .entry))) ⌝ }
     {
-        let a = self.words[0] & other.words[0];
-        if a != 0 {
-            return Some(a.trailing_zeros() as u8);
-        }
-        let b = self.words[1] & other.words[1];
-        if b != 0 {
-            return Some(64 + b.trailing_zeros() as u8);
-        }
-        let c = self.words[2] & other.words[2];
-        if c != 0 {
-            return Some(128 + c.trailing_zeros() as u8);
-        }
-        let d = self.words[3] & other.words[3];
-        if d != 0 {
-            return Some(192 + d.trailing_zeros() as u8);
+        for i in 0..4u8 {
+            let w = self.words[i as usize] & other.words[i as usize];
+            if w != 0 {
+                return Some(64 * i + w.trailing_zeros() as u8);
+            }
         }
         None
     }

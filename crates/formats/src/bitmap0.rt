@@ -1,13 +1,13 @@
 ghost use mathlib.Core.Path.{_≡_};
 ghost use mathlib.Core.Bool.{not, _&&_};
-ghost use mathlib.Core.List.{_++_};
+ghost use mathlib.Core.List.{[], _∷_, _++_};
 ghost use Prim.Native.Nat.{ℕ, _+_, _-_, _*_, _<_};
 ghost use lib.ListN.{length, drop};
 ghost use Rattle.std.specs.Options.{isSome};
-ghost use Rattle.bits.specs.Bits.{bit};
+ghost use Rattle.bits.specs.Bits.{bit, bitWithin};
 ghost use Rattle.bits.specs.Lowest.{lowest};
 ghost use Rattle.formats.specs.Format.{formatOf};
-ghost use Rattle.formats.specs.BitMap0.{bitMap0, inMap, beyond, mapSet, mapOctets};
+ghost use Rattle.formats.specs.BitMap0.{bitMap0, mapClaim, inMap, beyond, mapSet, mapOctets};
 use channels::ChannelSet;
 use claims::Claims;
 use faults::FormatFault;
@@ -27,6 +27,11 @@ const OCTETS: usize = 16;
 
 // The highest channel that has a bit.
 const LAST: u16 = 124;
+
+// The octets claimed, as words: a fact that a call brings in; it costs nothing at run time.
+fn claimed_words()
+    ensures { λ _. ⌜ ((o : ℕ) → o < 256 → bitWithin (18446744073709551615 ∷ 0 ∷ 0 ∷ 0 ∷ []) o ≡ mapClaim o) ⌝ }
+{}
 
 // The bits that stand for channels in the octet with index i: the upper half of the first octet has none.
 fn channel_bits(i: usize, octet: u8) -> u8
@@ -67,6 +72,7 @@ pub impl Pile for BitMap0 as BitMap0Pile {
     ghost meaning = { λ _. formatOf bitMap0 };
 
     fn claims(&self) -> Claims {
+        claimed_words();
         Claims::of(0xFFFFFFFFFFFFFFFF, 0, 0, 0)
     }
 

@@ -9,9 +9,6 @@ use faults::Layer;
 use faults::PileFault;
 use piles::Pile;
 
-// Sixty-four first octets.
-const ALL: u64 = 0xFFFFFFFFFFFFFFFF;
-
 #[derive(Clone, Copy)]
 pub struct Mute {}
 
@@ -19,7 +16,7 @@ pub impl Pile for Mute as MutePile {
     ghost meaning = { λ _. mute };
 
     fn claims(&self) -> Claims {
-        Claims::of(ALL, ALL, ALL, ALL)
+        Claims::all()
     }
 
     fn read(&self, _contents: &[u8], _set: &mut ChannelSet) -> Result<(), PileFault> {

@@ -10,22 +10,39 @@ use Rattle.std.specs.declared.option.Option.the-variants.{Some, None}
 use Rattle.std.specs.declared.result.Result.{Result}
 use Rattle.std.specs.declared.result.Result.the-variants.{Ok, Err}
 use Rattle.std.specs.Results.{okPart}
-use Rattle.std.proofs.shelf.Lists.{drop-set-lt}
+use Rattle.std.proofs.shelf.Lists.{drop-set-lt, length-take}
 use Rattle.std.proofs.shelf.Tests.{cases-eq}
 use Rattle.channels.specs.declared.ChannelSet.{ChannelSet}
 use Rattle.faults.specs.declared.PileFault.{PileFault}
 use Rattle.piles.specs.declared.flags.Flags.{Flags}
 use Rattle.piles.specs.Flagged.{plain, flagNumber, flagged, flaggedFirst}
 use Rattle.piles.specs.Laws.{Meaning, Lawful, Octets}
-use Rattle.piles.specs.Filing.{Never, Serves, NoneServes, Composed, NotComposed}
+use Rattle.piles.specs.Filing.{Never, octetsOf, Served, Marked, NotComposed}
 
 module _ (m : Meaning) (s : ChannelSet) (laws : Lawful m) (least most : ℕ) where
-  pub not-composed : (f : PileFault) (before after : List ℕ) → NoneServes (m .writes s) least most f before after → NotComposed m s least most f before after
-  not-composed f before after n = record {
-    same = n .same;
-    never = λ M low high. ⊎-elim (λ e. laws .refused s M f (ap (m .writes s) e ∙ n .last)) (λ d. let r = n .below M low (omega arith) in laws .refused s M (r .0) (r .1)) (cases-eq M most);
-    last = n .last;
-    numbered = laws .write-number s most f (n .last);
+  -- each length below the one at hand is refused
+  abbrev pub Below : ℕ → Type 0
+  Below L = (M : ℕ) → least ≤ M → M < L → (f : PileFault) × (m .writes s M ≡ Err f)
+
+  below-never : (L : ℕ) → Below L → (M : ℕ) → least ≤ M → M < L → Never (m .reads) s M
+  below-never L b M low l = let r = b M low l in laws .refused s M (r .0) (r .1)
+
+  pub not-composed : (f : PileFault) (before after : List ℕ) → after ≡ before → m .writes s most ≡ Err f → Below most → NotComposed m s least most f before after
+  not-composed f before after same last b = record {
+    same = same;
+    never = λ M low high. ⊎-elim (λ e. laws .refused s M f (ap (m .writes s) e ∙ last)) (λ d. below-never most b M low (omega arith)) (cases-eq M most);
+    last = last;
+    numbered = laws .write-number s most f last;
+  }
+
+  pub served : (L : ℕ) (before after : List ℕ) → least ≤ L → L ≤ most → m .writes s L ≡ Ok (take L after) → drop L after ≡ drop L before → Below L → Served m s least most L before after
+  served L before after low high put rest b = record {
+    low = low;
+    high = high;
+    fewest = below-never L b;
+    contents = sym (ap octetsOf put);
+    back = laws .written s L (take L after) put .back;
+    rest = rest;
   }
 
   ok-part : (r : Result ChannelSet PileFault) → okPart r ≡ Some s → r ≡ Ok s
@@ -54,18 +71,14 @@ module _ (m : Meaning) (s : ChannelSet) (laws : Lawful m) (least most : ℕ) whe
   flagged-front flags (suc n) [] h k = absurd (omega arith)
   flagged-front flags (suc n) (o ∷ os) h k = refl
 
-  pub composed : (flags : Flags) (L : ℕ) (before mid : List ℕ) → 1 ≤ length mid → Serves (m .writes s) least most L before mid
-      → (v : ℕ) → v ≡ flagged flags (getD mid 0 0) → Composed m s least most flags L before (set mid 0 v)
-  composed flags L before mid some k v e =
-      let w = laws .written s L (take L mid) (k .put) in
-      let long = w .long in
-      let one : 1 ≤ L = omega (arith, laws .sound (take L mid) s (w .back) .some) in
-      let front : take L (set mid 0 v) ≡ flaggedFirst flags (take L mid) = ap (λ x. take L (set mid 0 x)) e ∙ flagged-front flags L mid one some in
+  pub marked : (flags : Flags) (L : ℕ) (before : List ℕ) → 1 ≤ length before → Octets (take L before) → m .reads (take L before) ≡ Ok s
+      → (v : ℕ) → v ≡ flagged flags (getD before 0 0) → Marked m s L flags before (set before 0 v)
+  marked flags L before some oct e v is =
+      let one : 1 ≤ length (take L before) = laws .sound (take L before) s e .some in
+      let long : 1 ≤ L = omega (arith, length-take L before) in
+      let front : take L (set before 0 v) ≡ flaggedFirst flags (take L before) = ap (λ x. take L (set before 0 x)) is ∙ flagged-front flags L before long some in
       record {
-        low = k .low;
-        high = k .high;
-        fewest = λ M low below. let r = k .below M low below in laws .refused s M (r .0) (r .1);
-        contents = (take L mid, k .put, front);
-        back = ap (m .reads) front ∙ flagged-back flags (take L mid) (omega arith) (w .octets) (w .back);
-        rest = drop-set-lt L mid 0 v (omega arith) ∙ k .rest;
+        contents = front;
+        back = ap (m .reads) front ∙ flagged-back flags (take L before) one oct e;
+        rest = drop-set-lt L before 0 v (omega arith);
       }

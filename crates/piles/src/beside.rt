@@ -26,6 +26,18 @@ fn clash<A: Pile, B: Pile>(a: &A, b: &B) -> Option<u8>
     x.common(&y)
 }
 
+// What either claims, unless they claim something in common.
+fn joint<A: Pile, B: Pile>(a: &A, b: &B) -> Claims
+    ensures { λ r. ⌜ ((o : ℕ) → o < 256 → claims r o ≡ besideOf (A·Pile .meaning (now (a .entry))) (B·Pile .meaning (now (b .entry))) .claimed o) ⌝ }
+{
+    let x = a.claims();
+    let y = b.claims();
+    match x.common(&y) {
+        Some(_) => Claims::none(),
+        None => x.union(&y),
+    }
+}
+
 fn claims_one<P: Pile>(p: &P, o: u8) -> bool
     ensures { λ r. ⌜ r ≡ meaning (now (p .entry)) .claimed o ⌝ }
 {
@@ -37,12 +49,7 @@ pub impl<A: Pile, B: Pile> Pile for Beside<A, B> as BesidePile {
     ghost meaning = { λ p. besideOf (A·Pile .meaning (p .first)) (B·Pile .meaning (p .second)) };
 
     fn claims(&self) -> Claims {
-        let x = self.first.claims();
-        let y = self.second.claims();
-        match x.common(&y) {
-            Some(_) => Claims::none(),
-            None => x.union(&y),
-        }
+        joint(&self.first, &self.second)
     }
 
     fn read(&self, contents: &[u8], set: &mut ChannelSet) -> Result<(), PileFault> {

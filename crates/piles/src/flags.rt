@@ -1,7 +1,7 @@
 ghost use mathlib.Core.Path.{_≡_};
-ghost use Prim.Native.Nat.{_<_};
+ghost use Prim.Native.Nat.{_+_, _*_, _<_};
 ghost use Rattle.std.specs.Options.{Cases as BySome};
-ghost use Rattle.piles.specs.Flagged.{flagNumber, flagged};
+ghost use Rattle.piles.specs.Flagged.{plain, flagNumber, flagged};
 
 // Two marks in the first octet of a neighbour cells description; in every other list both are 0.
 #[derive(Clone, Copy, PartialEq, Eq, Debug)]
@@ -10,6 +10,14 @@ pub struct Flags {
     pub extension: bool,
     // BA-IND, bit 5: which of two lists of neighbours it goes with
     pub allocation: bool,
+}
+
+// An octet with its bits 6 and 5 put to a number.
+fn with_bits(octet: u8, number: u8) -> u8
+    requires { ⌜ number < 4 ⌝ }
+    ensures { λ r. ⌜ r ≡ plain octet + 16 * number ⌝ }
+{
+    (octet & 0xCF) | (number << 4)
 }
 
 impl Flags {
@@ -36,6 +44,6 @@ impl Flags {
     pub fn put_into(&self, octet: u8) -> u8
         ensures { λ r. ⌜ r ≡ flagged (now (self .entry)) octet ⌝ }
     {
-        (octet & 0xCF) | (self.number() << 4)
+        with_bits(octet, self.number())
     }
 }

@@ -1,13 +1,8 @@
-use mathlib.Core.Path.{refl, sym, _∙_}
+use mathlib.Core.Path.{sym, _∙_}
 use native.Mathlib.Omega.{arith}
 use Rattle.std.proofs.shelf.Tests.{le-ltb}
-use Rattle.bits.specs.Bits.{bit}
 use Rattle.bits.proofs.Digits.{bit-past}
 use Rattle.bits.proofs.bit_of.Needs as need
-
-pub returns-then-k-lt64 : need.returns-then-k-lt64
-unfolding bit
-returns-then-k-lt64 c = refl
 
 pub returns-else-k-lt64 : need.returns-else-k-lt64
 returns-else-k-lt64 c = le-ltb (c .args .k) 64 (omega arith) ∙ sym (bit-past (c .args .w) 64 (c .args .k) (omega arith) (omega arith))
