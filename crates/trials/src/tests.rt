@@ -8,6 +8,15 @@ use faults::PileFaultTold;
 use faults::Refusal;
 use faults::RefusalDebug;
 use faults::RefusalPartialEq;
+use formats::variable::VariablePile;
+use piles::filing::compose;
+use piles::flags::Flags;
+use piles::lengths::Lengths;
+use ranges::Range1024Pile;
+use ranges::Range128Pile;
+use ranges::Range256Pile;
+use ranges::Range512Pile;
+use standard::standard;
 use std::test::*;
 
 const NO_OCTETS: [u8; 0] = [];
@@ -168,4 +177,65 @@ fn a_maker_refuses_in_its_own_words() -> Result<(), Fail> {
     )?;
     let nested = nest(set_of(&[1]));
     check_eq(read_refused(&nested, &[0; 16])?, pile_says(5, 0))
+}
+
+// The octets of a set at the least length from 2 to 130.
+fn filed(channels: &[u16], octets: &[u8]) -> Result<(), Fail> {
+    let Some(lengths) = Lengths::between(2, 130) else {
+        return Err(Fail::new("no lengths"));
+    };
+    let flags = Flags {
+        extension: false,
+        allocation: false,
+    };
+    let set = set_of(channels);
+    let mut out = [0xA5u8; 130];
+    let Ok(len) = compose(&standard(), &set, lengths, flags, &mut out) else {
+        return Err(Fail::new("it was refused"));
+    };
+    check(len <= 130)?;
+    check(out[0..len] == *octets)?;
+    let mut back = ChannelSet::new();
+    check(standard().read(octets, &mut back).is_ok())?;
+    check(back == set)
+}
+
+#[test]
+fn the_standard_pile_files_what_was_worked_out() -> Result<(), Fail> {
+    filed(&[], &[0x80, 0x00])?;
+    filed(&[0], &[0x84, 0x00])?;
+    filed(&[1023], &[0x83, 0xFF])?;
+    filed(&[0, 512], &[0x86, 0x00])?;
+    filed(&[10, 12], &[0x8E, 0x05, 0x20])?;
+    filed(&[10, 20], &[0x8C, 0x05, 0x0A])?;
+    filed(&[3, 1020], &[0x8F, 0xFE, 0x01])?;
+    filed(&[1, 513], &[0x80, 0x01, 0x00, 0x80])
+}
+
+#[test]
+fn numbers_end_at_the_first_null() -> Result<(), Fail> {
+    let after_null = Refusal {
+        number: 4,
+        layer: Layer::Format,
+        place: 1,
+    };
+    check_eq(read_refused(&standard(), &[0x80, 0, 0, 0x80])?, after_null)?;
+    // leftover bits do not count
+    let mut set = set_of(&[5]);
+    check(standard().read(&[0x80, 0, 0, 0x1F], &mut set).is_ok())?;
+    check(set == ChannelSet::new())
+}
+
+// The example that the standard's annex works out, as it is read.
+#[test]
+fn the_annex_example_is_read() -> Result<(), Fail> {
+    let octets = [
+        0x80, 0x7A, 0x01, 0x11, 0x73, 0x12, 0xD0, 0x8F, 0x23, 0x53, 0x06, 0x62, 0x1B, 0x68, 0x11, 0x89,
+    ];
+    let mut set = ChannelSet::new();
+    check(standard().read(&octets, &mut set).is_ok())?;
+    let list = set_of(&[
+        13, 71, 122, 191, 251, 321, 402, 476, 521, 575, 635, 701, 765, 831, 906, 981,
+    ]);
+    check(set == list)
 }

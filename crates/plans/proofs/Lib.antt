@@ -1,0 +1,4 @@
+mod Fronts
+mod Spreads
+mod Steps
+mod Pasted

@@ -1,0 +1,11 @@
+use mathlib.Core.Path.{_≡_}
+use Prim.Native.Nat.{_-_, _≤_}
+use lib.ListN.{length}
+use Rattle.plans.specs.Words.{ends}
+use Rattle.plans.proofs.reading.end.Given as given
+
+abbrev pub Inv-loop-k : given.InvT-loop-k
+Inv-loop-k l = (ends (l .line) (l .k) ≡ ends (l .line) (l .i)) × (l .k ≤ length (l .line))
+
+abbrev pub μ-loop-k : given.MeasureT-loop-k
+μ-loop-k l = length (l .line) - l .k

@@ -1,0 +1,5 @@
+pub mod Readings
+pub mod RangeLaws
+pub mod Gathers
+pub mod Scatters
+pub mod Encodes
