@@ -194,7 +194,7 @@ fn filed(channels: &[u16], octets: &[u8]) -> Result<(), Fail> {
         return Err(Fail::new("it was refused"));
     };
     check(len <= 130)?;
-    check(out[0..len] == *octets)?;
+    check(&out[0..len] == octets)?;
     let mut back = ChannelSet::new();
     check(standard().read(octets, &mut back).is_ok())?;
     check(back == set)
