@@ -15,7 +15,6 @@ ghost use Rattle.notation.specs.Texts.{hexChar, codeText, cellText, octetText,
 use crate::Cell;
 use crate::Expected;
 use crate::WordFault;
-use crate::WordFaultDebug;
 use crate::blank_before;
 use crate::fault;
 use std::alloc::AllocError;
@@ -131,7 +130,7 @@ pub fn write(heap: Global, octets: &[u8]) -> Result<String, AllocError>
 }
 
 // Why a text gives no octets.
-#[derive(Debug, Drop)]
+#[derive(Drop)]
 pub enum HexFault {
     Word(WordFault),
     Memory,

@@ -16,7 +16,7 @@ use std::alloc::AllocError;
 const FIRST: usize = 0;
 
 // What a word should have had where it went wrong.
-#[derive(Clone, Copy, PartialEq, Eq, Debug)]
+#[derive(Clone, Copy)]
 pub enum Expected {
     // a decimal digit
     Digit,
@@ -37,21 +37,21 @@ pub enum Expected {
 }
 
 // What is wrong with a word: the place of the byte at fault, the first being 0, and what should have stood there.
-#[derive(Clone, Copy, PartialEq, Eq, Debug)]
+#[derive(Clone, Copy)]
 pub struct WordFault {
     pub offset: usize,
     pub expected: Expected,
 }
 
 // The channels from one to another, both included.
-#[derive(Clone, Copy, PartialEq, Eq, Debug)]
+#[derive(Clone, Copy)]
 pub struct Span {
     pub low: u16,
     pub high: u16,
 }
 
 // A cell by its location area code and its cell identity.
-#[derive(Clone, Copy, PartialEq, Eq, Debug)]
+#[derive(Clone, Copy)]
 pub struct Cell {
     pub lac: u16,
     pub ci: u16,

@@ -80,9 +80,16 @@ abbrev pub verdictOf : Why → Verdict
 verdictOf (whys.Misread e) = Misread
 verdictOf (whys.Refused f) = Refused
 
+-- what is found where a word ends too early
+abbrev pub nothingText : List ℕ
+nothingText = codes "the end of the word"
+
 -- the complaint about a line; what was found there stands in it
-abbrev pub Complained : ℕ → Complaint → Answer → Type 0
-Complained n c a = (a .verdict ≡ verdictOf (c .why)) × ((found : List ℕ) × (string-bytes (a .text) ≡ complaintOf n (c .start + 1) found (whyText (c .why))))
+pub record Complained (n : ℕ) (c : Complaint) (a : Answer) : Type 0 where
+  pub verdict : a .verdict ≡ verdictOf (c .why)
+  pub found : List ℕ
+  pub nothing : c .start ≡ c .end → found ≡ nothingText
+  pub text : string-bytes (a .text) ≡ complaintOf n (c .start + 1) found (whyText (c .why))
 
 -- the answer to a line, by what it says
 abbrev pub Answered : Meaning → ℕ → Result Line Complaint → Answer → Type 0

@@ -55,7 +55,7 @@ pub struct Trial {
 }
 
 // What came of a line.
-#[derive(Clone, Copy, PartialEq, Eq, Debug)]
+#[derive(Clone, Copy)]
 pub enum Verdict {
     // nothing stands there
     Blank,

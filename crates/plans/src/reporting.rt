@@ -6,7 +6,7 @@ ghost use Rattle.std.specs.declared.result.Result.the-variants.{Ok};
 ghost use Rattle.std.specs.Of.String.{string-bytes};
 ghost use Rattle.std.specs.Vec.{made};
 ghost use Rattle.plans.specs.Lines.{Inside, lineOf};
-ghost use Rattle.plans.specs.Reports.{noun, headText, likenessText, composedText, Reported, Complained, Answered};
+ghost use Rattle.plans.specs.Reports.{noun, headText, likenessText, composedText, Reported, nothingText, Complained, Answered};
 use crate::Answer;
 use crate::Complaint;
 use crate::Entry;
@@ -102,8 +102,10 @@ pub fn report<P: Pile>(
     }
 }
 
-// A part of a word as it was found.
-fn quoted(heap: Global, part: &[u8]) -> Result<String, AllocError> {
+// A part of a word as it was found, in quotes.
+fn quoted(heap: Global, part: &[u8]) -> Result<String, AllocError>
+    ensures { λ r. ⌜ made r (λ s. (length (now (part .entry)) ≡ 0 → string-bytes s ≡ nothingText)) ⌝ }
+{
     if part.is_empty() {
         return String::from_str(heap, "the end of the word");
     }
