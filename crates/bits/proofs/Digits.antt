@@ -1,12 +1,11 @@
 -- Laws of the bits of a number.
-use Rattle.std.proofs.Common.{◌≡◌, ℕ, zero, suc, ◌+◌, ◌-◌, ◌*◌, ◌/◌, ◌%◌, ◌^◌, ◌<◌, ◌≤◌, min, max, Bool, true, false, cond, not, ◌&&◌, ◌||◌, eqb, ltb, ◌⊎◌, List, [], ◌∷◌, ◌++◌, length, sym, refl, ap, ◌∙◌, ap₂, inl, inr, ⊎_elim, add-zero, add-suc, mul_assoc, mul_comm, add-mul, one-mul, mul_left_comm, add-one, one-add, arith, pow_mono}
-use Prim.Native.Nat.{differ}
+use Rattle.std.proofs.Common.{◌≡◌, ℕ, zero, suc, ◌+◌, ◌-◌, ◌*◌, ◌/◌, ◌%◌, ◌^◌, ◌<◌, ◌≤◌, min, max, Bool, true, false, cond, not, ◌&&◌, ◌||◌, eqb, ltb, [], ◌∷◌, ◌++◌, length, sym, refl, ap, ◌∙◌, ap₂, ⊎_elim, add-zero, add-suc, mul_assoc, add-mul, one-mul, mul_left_comm, add-one, one-add, arith, pow_mono}
 use native.Mathlib.Nat.{mod-le, zero-div, div-eq_of_lt, mod_self}
-use lib.Bits.{bit_and, bit_or, bit_xor, and_step, or_step, xor_step, and_self, and_block, and_mask}
-use lib.Count.{ones, ones_step, count_trailing_zeros, under, trailing_le}
-use Rattle.std.proofs.lemmas.Nat.{shr-shr, pow-add, pow_pos, and_shr, or_shr, xor_shr, shl-shr, field_of, mod-pow-add, shr_split, div_below, shr_below, mod_below, pow_below, div-mul-add, one_shl}
+use lib.Bits.{bit_and, bit_or, and_step, or_step, and_self, and_block, and_mask}
+use lib.Count.{ones, ones_step, count_trailing_zeros, under}
+use Rattle.std.proofs.lemmas.Nat.{shr-shr, pow-add, pow_pos, and_shr, or_shr, shl-shr, field_of, mod-pow-add, shr_split, mod_below, pow_below, one_shl}
 use Rattle.std.proofs.lemmas.List.{length-append, append-nil}
-use Rattle.std.proofs.lemmas.Bool.{eq-eqb, ne_eqb, eqb-true, eqb-false, both_ways, cases_Bool, cases_lt, cases_eq, cond-true, cond-false, lt-ltb, le-ltb}
+use Rattle.std.proofs.lemmas.Bool.{eq-eqb, ne_eqb, cases_lt, cases_eq, cond-true, cond-false, lt-ltb, le-ltb}
 use Rattle.bits.specs.Bits.{bit, number_of, tally, rising}
 
 pub pow_more : (k : ℕ) → 2 ^ suc k ≡ 2 * 2 ^ k

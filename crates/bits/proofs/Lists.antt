@@ -1,14 +1,13 @@
 -- Laws of lists of words.
-use Rattle.std.proofs.Common.{◌≡◌, ℕ, zero, suc, ◌+◌, ◌-◌, ◌*◌, ◌/◌, ◌%◌, ◌^◌, ◌<◌, ◌≤◌, Bool, true, false, cond, not, ◌&&◌, ◌||◌, eqb, ltb, ◌⊎◌, List, [], ◌∷◌, ◌++◌, map, length, get_or, set, replicate, Some, None, Option, sym, refl, ap, ◌∙◌, subst, ap₂, inl, inr, ⊎_elim, arith}
+use Rattle.std.proofs.Common.{◌≡◌, ℕ, ◌+◌, ◌-◌, ◌*◌, ◌/◌, ◌%◌, ◌^◌, ◌<◌, ◌≤◌, Bool, false, cond, eqb, List, length, get_or, set, replicate, Some, sym, refl, ap, ◌∙◌, subst, ap₂, ⊎_elim, arith}
 use lib.Count.{ones, count_trailing_zeros}
-use Rattle.std.specs.List.{range_with_len}
 use Rattle.std.proofs.lemmas.List.FromFn.{length-map-range_with_len, get_or-map-range_with_len}
 use Rattle.std.proofs.lemmas.List.{get_or-set_same, get_or-set_other, get_or_past, get_or-replicate, length-replicate, ext_get_or, length-set}
 use Rattle.std.proofs.lemmas.Bool.{eq-eqb, ne_eqb, cases_lt, cases_eq, cond-true, cond-false}
-use Rattle.bits.specs.Bits.{bit, bit_in, Fit, number_of, words_of, tally, rising}
+use Rattle.bits.specs.Bits.{bit, bit_in, Fit, number_of, words_of, tally}
 use Rattle.bits.specs.Lowest.{lowest}
-use Rattle.bits.proofs.Lows.{lowest_is_some, lowest_is_none}
-use Rattle.bits.proofs.Digits.{bit-zero, bits-same, number-below, bit-number, trailing_low, Low, tally_add, tally-same, ones-tally, no_bits}
+use Rattle.bits.proofs.Lows.{lowest_is_some}
+use Rattle.bits.proofs.Digits.{bit-zero, bits-same, number-below, bit-number, trailing_low, tally_add, tally-same, ones-tally}
 
 pub in_at : (ws : List ℕ) (i b : ℕ) → b < 64 → bit_in ws (64 * i + b) ≡ bit (get_or ws i 0) b
 unfolding bit_in

@@ -1,4 +1,6 @@
 // The bits of numbers and of lists of 64-bit words, and what is counted, listed and found among them.
+#![tactic(auto)]
+
 ghost use Rattle.std.specs.Prelude.{◌≡◌, ◌<◌};
 ghost use Rattle.bits.specs.Bits.{bit};
 

@@ -1,15 +1,15 @@
 -- What a call leaves in a set.
-use Rattle.std.proofs.Common.{◌≡◌, ℕ, suc, ◌+◌, ◌-◌, ◌*◌, ◌/◌, ◌%◌, ◌^◌, ◌<◌, ◌≤◌, Bool, true, false, cond, not, ◌&&◌, ◌||◌, eqb, ltb, leb, ◌⊎◌, List, [], ◌∷◌, ◌++◌, length, get_or, take, drop, set, replicate, sym, refl, ap, ◌∙◌, subst, ap₂, inl, inr, ⊎_elim, arith, pow_mono}
+use Rattle.std.proofs.Common.{◌≡◌, ℕ, suc, ◌+◌, ◌-◌, ◌*◌, ◌/◌, ◌%◌, ◌^◌, ◌<◌, ◌≤◌, Bool, true, false, cond, not, ◌&&◌, ◌||◌, eqb, ltb, leb, List, [], ◌∷◌, ◌++◌, length, get_or, drop, set, replicate, sym, refl, ap, ◌∙◌, subst, ap₂, ⊎_elim, arith, pow_mono}
 use lib.Bits.{bit_and, bit_or}
 use native.Mathlib.Nat.{div-eq_of_lt}
-use Rattle.bits.specs.Bits.{bit, bit_in, Fit, tally, rising}
-use Rattle.bits.proofs.Digits.{bits-same, bit-number, number-below, bit-or, bit_past, bit_mod, bit_shr, bit_shl_low, bit_shl_high, bit_added, bit_taken, bit-without, bit_skipped, bit-zero, bit_cleared, Low, trailing_low, tally_le, length-rising, rising-gap, rising-next}
+use Rattle.bits.specs.Bits.{bit, bit_in, tally, rising}
+use Rattle.bits.proofs.Digits.{bits-same, bit-number, number-below, bit-or, bit_past, bit_mod, bit_shr, bit_shl_low, bit_shl_high, bit-without, bit_skipped, bit-zero, bit_cleared, Low, trailing_low, tally_le, length-rising, rising-gap, rising-next}
 use lib.Count.{ones, count_trailing_zeros}
 use Rattle.std.proofs.lemmas.Nat.{and_le_l}
 use Rattle.std.proofs.lemmas.List.{get_or-replicate, take_more_set, drop-set-lt, drop-drop, length-set, length_push}
-use Rattle.bits.proofs.Lists.{in_put, in_split, in_none, in_at, in_set-same, in_set-other, tally-words}
+use Rattle.bits.proofs.Lists.{in_put, in_split, in_at, in_set-same, in_set-other, tally-words}
 use Rattle.channels.specs.declared.ChannelSet.{ChannelSet}
-use Rattle.channels.specs.Sets.{holds, set_of, no_channels, eight_from, put, turned, above, strays, Listed}
+use Rattle.channels.specs.Sets.{holds, set_of, eight_from, put, above, strays, Listed}
 use Rattle.channels.proofs.Views.{set_is, holds-bits, holds-past}
 use Rattle.std.proofs.lemmas.Bool.{cases_lt, cases_eq, lt-ltb, le-ltb, le-leb, lt-leb, eq-eqb, ne_eqb, cond-true, cond-false, and_left, and_right, both_ways}
 

@@ -2,8 +2,8 @@ ghost use Rattle.std.specs.Prelude.{◌≡◌, ℕ, ◌+◌, ◌-◌, ◌*◌, �
 ghost use Rattle.bits.specs.Bits.{bit};
 ghost use Rattle.channels.specs.Sets.{holds, set_of, no_channels, all_channels, put, put_eight, eight_from, turned, size_of, next_above, first_outside, within, members_of, Listed, Changed, ViewLaws, MemberLaws};
 ghost use Rattle.std.specs.Cmp.Rules.{comparing};
-ghost use Rattle.std.proofs.Common.{rules, arith};
-ghost use Rattle.std.specs.Cmp as Keys;
+ghost use Rattle.std.proofs.Common.{rules};
+ghost use Rattle.std.specs.Cmp.Lexicographic.{pointwise};
 
 use crate::ChannelSet;
 use bits::bit_of;
@@ -18,6 +18,7 @@ const WORDS: usize = 16;
 fn laws()
     ensures view { ViewLaws }
     ensures members { MemberLaws }
+    ensures equality { (a b : ChannelSet) → Decides (⟦<ChannelSet as PartialEq>⟧.eq a b) (a ≡ b) }
 {}
 
 // A word moved up by r bits, with the top r bits of the word below it.
@@ -29,7 +30,8 @@ fn joined(high: u64, low: u64, r: u16) -> u64
 }
 
 fn same_words(a: &ChannelSet, b: &ChannelSet) -> bool
-    ensures { Decides result (a.now ≡ b.now) }
+    ensures words { result ≡ pointwise ◌==◌ a.now.words b.now.words }
+    ensures decides { Decides result (a.now ≡ b.now) }
 {
     a.words == b.words
 }
@@ -177,6 +179,7 @@ impl ChannelSet {
         ensures empty { result ≡ no_channels }
         ensures view { ViewLaws }
         ensures members { MemberLaws }
+        ensures equality { (a b : ChannelSet) → Decides (⟦<ChannelSet as PartialEq>⟧.eq a b) (a ≡ b) }
     {
         laws();
         ChannelSet::filled(false)
@@ -310,15 +313,18 @@ impl ChannelSet {
 
 // Equal sets are equal values.
 impl PartialEq for ChannelSet {
-    ghost equals = { λ a b r. Decides r (a ≡ b) };
+    ghost eq = { λ a b. pointwise ◌==◌ a.words b.words };
 
-    ghost laws = { Keys.partial_equiv_from_equiv (first_of (Prim.search (comparing, rules), Prim.grind (arith, Self.row.coded.inj))) };
+    ghost laws = { Prim.search (comparing, rules) };
 
-    fn eq(&self, other: &ChannelSet) -> bool {
+    fn eq(&self, other: &ChannelSet) -> bool
+        ensures value { result ≡ ⟦<ChannelSet as PartialEq>⟧.eq self.now other.now }
+        ensures decides { Decides result (self.now ≡ other.now) }
+    {
         same_words(self, other)
     }
 }
 
 impl Eq for ChannelSet {
-    ghost laws = { first_of (Prim.search (comparing, rules), Prim.grind (arith, Self.row.coded.inj)) };
+    ghost laws = { Prim.search (comparing, rules) };
 }

@@ -1,5 +1,7 @@
 // Sets of channels. A channel (ARFCN) is a number from 0 to 1023; a set holds channels and can hold nothing else: a bit
 // for each, in sixteen words of 64.
+#![tactic(auto)]
+
 ghost use Rattle.std.specs.Prelude.{◌≡◌, length};
 ghost use Rattle.bits.specs.Bits.{Fit};
 

@@ -1,4 +1,6 @@
 // The first octets that a pile claims, a bit for each in words of 64.
+#![tactic(auto)]
+
 ghost use Rattle.std.specs.Prelude.{◌≡◌, length};
 ghost use Rattle.bits.specs.Bits.{Fit};
 

@@ -1,11 +1,13 @@
 // Refusals. A call that says no gives a fault; a fault tells a number, the layer whose rule was broken, and a place.
 // Each layer has an enum of its own, and a lower layer's fault travels up whole inside the upper one's.
+#![tactic(auto)]
+
 ghost use Rattle.std.specs.Prelude.{◌≡◌, ℕ, Some, None};
 ghost use Rattle.faults.specs.declared.Refusal.{Refusal as Told};
 ghost use Rattle.faults.specs.Refusals.{of_set, of_format, of_pile, of_record, of_volume, start_of};
-ghost use Rattle.faults.specs.declared.PileFault.TheVariants.{Format as fromFormat};
-ghost use Rattle.faults.specs.declared.RecordFault.TheVariants.{Pile as fromPile};
-ghost use Rattle.faults.specs.declared.VolumeFault.TheVariants.{Record as fromRecord};
+ghost use Rattle.faults.specs.declared.PileFault.TheVariants.{Format as from_format};
+ghost use Rattle.faults.specs.declared.RecordFault.TheVariants.{Pile as from_pile};
+ghost use Rattle.faults.specs.declared.VolumeFault.TheVariants.{Record as from_record};
 
 // Whose rule was broken.
 #[derive(Clone, Copy, PartialEq, Eq, Debug)]
@@ -269,7 +271,7 @@ fn in_volume(number: u8, place: usize) -> Refusal
 
 // A format's fault travels up whole.
 impl From<FormatFault> for PileFault {
-    ghost from_gives = { λ f r. r ≡ fromFormat f };
+    ghost from_gives = { λ f r. r ≡ from_format f };
 
     fn from(fault: FormatFault) -> PileFault {
         PileFault::Format(fault)
@@ -278,7 +280,7 @@ impl From<FormatFault> for PileFault {
 
 // A pile's fault travels up whole.
 impl From<PileFault> for RecordFault {
-    ghost from_gives = { λ f r. r ≡ fromPile f };
+    ghost from_gives = { λ f r. r ≡ from_pile f };
 
     fn from(fault: PileFault) -> RecordFault {
         RecordFault::Pile(fault)
@@ -287,7 +289,7 @@ impl From<PileFault> for RecordFault {
 
 // A record's fault travels up whole, with the record's start if there is one to add.
 impl From<RecordFault> for VolumeFault {
-    ghost from_gives = { λ f r. r ≡ fromRecord None f };
+    ghost from_gives = { λ f r. r ≡ from_record None f };
 
     fn from(fault: RecordFault) -> VolumeFault {
         VolumeFault::Record { start: None, fault }
@@ -295,7 +297,7 @@ impl From<RecordFault> for VolumeFault {
 }
 
 impl From<Located> for VolumeFault {
-    ghost from_gives = { λ f r. r ≡ fromRecord (Some f.start) f.fault };
+    ghost from_gives = { λ f r. r ≡ from_record (Some f.start) f.fault };
 
     fn from(located: Located) -> VolumeFault {
         VolumeFault::Record {

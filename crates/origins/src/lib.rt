@@ -1,4 +1,6 @@
 // Where the writer of a set begins on the circle of 1024 channels, and the set as it is seen from there.
+#![tactic(auto)]
+
 ghost use Rattle.std.specs.Prelude.{◌≡◌, ◌+◌, ◌-◌, ◌%◌, ◌<◌, true, Some, None, nat_le};
 ghost use Rattle.channels.specs.Sets.{holds, next_above, size_of, turned};
 ghost use Rattle.origins.specs.Origins.{ahead, can_origin, origin_of, seen_from, lowest_of, later_origin, from_lowest, Begins};

@@ -1,6 +1,8 @@
 // The numbers W(1), W(2), .. of a channel list in one of the 'range' formats of GSM 04.08, and where they stand in its octets.
 // A bit position counts from the highest bit of the first octet. The numbers follow one another from a position on, highest bit first,
 // and W(i) is narrower by one bit at each power of two that i reaches.
+#![tactic(auto)]
+
 ghost use Rattle.std.specs.Prelude.{◌≡◌, ◌^◌, ◌<◌, ◌≤◌};
 ghost use Rattle.packing.specs.Ranges.{width_of, start_of};
 ghost use Rattle.packing.specs.Fields.{width};

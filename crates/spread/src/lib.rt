@@ -1,9 +1,11 @@
 // Writes the tree of a set whose members are listed in rising order: a node costs as much as it has members.
+#![tactic(auto)]
+
 ghost use Rattle.std.specs.Prelude.{◌≡◌, ℕ, suc, ◌+◌, ◌-◌, ◌*◌, ◌/◌, ◌<◌, ◌≤◌, T, length, MatchBool, slice_index};
 ghost use Rattle.spread.specs.Members.{Fit, Listed, Outcome, Wrote, among};
-ghost use Rattle.spread.specs.Steps.{Beside, Filled, Parted, Room, ahead as ahead_of, splits as splitsOf, turn as turn_of};
+ghost use Rattle.spread.specs.Steps.{Beside, Filled, Parted, Room, ahead as ahead_of, splits as splits_of, turn as turn_of};
 ghost use Rattle.tree.specs.Laws.{Writing};
-ghost use Rattle.tree.specs.Written.{full, pivot as pivotOf, written};
+ghost use Rattle.tree.specs.Written.{full, pivot as pivot_of, written};
 
 // The member t, counted on round the circle of m numbers a second time.
 fn turn(members: &[u16], m: u16, t: usize) -> u16
@@ -21,7 +23,7 @@ fn turn(members: &[u16], m: u16, t: usize) -> u16
 // Whether exactly k of the members after the one at j are among the next h numbers.
 fn splits(members: &[u16], m: u16, h: u16, k: usize, j: usize) -> bool
     requires { (Listed m members.now) × ((m ≡ suc (h + h)) × ((m ≤ 1023) × ((j < length members.now) × (j + k + 1 < length members.now + length members.now)))) }
-    ensures { result ≡ splitsOf m h members.now k j }
+    ensures { result ≡ splits_of m h members.now k j }
 {
     let reach = members[j] + h;
     turn(members, m, j + k) <= reach && reach < turn(members, m, j + k + 1)
@@ -31,8 +33,8 @@ fn splits(members: &[u16], m: u16, h: u16, k: usize, j: usize) -> bool
 fn lowest(members: &[u16], m: u16, h: u16) -> usize
     requires { (Listed m members.now) × ((m ≡ suc (h + h)) × ((m ≤ 1023) × (1 ≤ length members.now))) }
     ensures within { result < length members.now }
-    ensures splits { T (splitsOf m h members.now ((length members.now - 1) / 2) result) }
-    ensures pivot { slice_index members.now result ≡ pivotOf h (among members.now) }
+    ensures splits { T (splits_of m h members.now ((length members.now - 1) / 2) result) }
+    ensures pivot { slice_index members.now result ≡ pivot_of h (among members.now) }
 {
     let n = members.len();
     let k = (n - 1) / 2;
@@ -64,7 +66,7 @@ fn renumber(part: &mut [u16], m: u16, p: u16, between: u16)
 
 // The right and the left members of the pivot, which stands at j, in numbers of their own.
 fn parts(members: &mut [u16], m: u16, h: u16, j: usize) -> (&mut [u16], &mut [u16])
-    requires { (Listed m members.old) × ((m ≡ suc (h + h)) × ((m ≤ 1023) × ((j < length members.old) × (T (splitsOf m h members.old ((length members.old - 1) / 2) j))))) }
+    requires { (Listed m members.old) × ((m ≡ suc (h + h)) × ((m ≤ 1023) × ((j < length members.old) × (T (splits_of m h members.old ((length members.old - 1) / 2) j))))) }
     ensures { Parted h (slice_index members.old j) members.old result.0.now result.1.now }
 {
     let n = members.len();

@@ -1,10 +1,12 @@
 // The tree of numbers W(1), W(2), .. that GSM 04.08's range formats write a set of the numbers 1 .. 2^K - 1 as, and F(i), the number that
 // the place i of a tree stands for.
+#![tactic(auto)]
+
 ghost use Rattle.std.specs.Prelude.{◌≡◌, suc, ◌+◌, ◌-◌, ◌*◌, ◌%◌, ◌^◌, ◌<◌, ◌≤◌, true, length, pos, ◌+ℤ◌, ◌-ℤ◌, ◌<ℤ◌, MatchBool, unsigned_abs};
 ghost use Rattle.tree.specs.Laws.{Reading};
-ghost use Rattle.tree.specs.Number.{Read, entries, number as number_of, number_at, reaches as reachesOf};
+ghost use Rattle.tree.specs.Number.{Read, entries, number as number_of, number_at, reaches as reaches_of};
 ghost use Rattle.tree.specs.Smod.{smodℤ};
-ghost use Rattle.tree.specs.Steps.{Lifted, up as upOf};
+ghost use Rattle.tree.specs.Steps.{Lifted, up as up_of};
 
 // The width of the widest circle, that of range 1024.
 pub const WIDEST: u32 = 10;
@@ -64,7 +66,7 @@ fn spot(level: usize, i: usize) -> usize
 // which counts the place down by J and J / 2.
 fn up(table: &[u16], k: u32, l: u32, i: usize, n: u16) -> u16
     requires { (l < k) × ((k ≤ 10) × ((2 ^ suc l ≤ i) × (i < length table.now))) }
-    ensures { result ≡ upOf k (entries table.now) l i n }
+    ensures { result ≡ up_of k (entries table.now) l i n }
 {
     let level = 1usize << l;
     let size = 1u16 << (k - 1 - l);
@@ -90,7 +92,7 @@ fn climb(table: &[u16], k: u32, place: usize) -> u16
 
 // Whether the places up to this one are in the tree of width k and in the table.
 fn reaches(table: &[u16], k: u32, place: usize) -> bool
-    ensures { result ≡ reachesOf table.now k place }
+    ensures { result ≡ reaches_of table.now k place }
 {
     k <= WIDEST && place < 1 << k && place < table.len()
 }
@@ -128,7 +130,7 @@ fn lift(table: &[u16], k: u32, l: u32, out: &mut [u16])
 
 // Reads F(1), F(2), .. of the tree of width k in the table, as many as out has room for: all together, level by level.
 fn read(table: &[u16], k: u32, out: &mut [u16])
-    requires { reachesOf table.now k (length out.old) ≡ true }
+    requires { reaches_of table.now k (length out.old) ≡ true }
     ensures { Read table.now k out.new }
 {
     let n = out.len();
@@ -142,7 +144,7 @@ fn read(table: &[u16], k: u32, out: &mut [u16])
 // k is over 10, or there are not so many places in the tree or in the table.
 #[must_use]
 pub fn numbers(table: &[u16], k: u32, out: &mut [u16]) -> bool
-    ensures answer { result ≡ reachesOf table.now k (length out.old) }
+    ensures answer { result ≡ reaches_of table.now k (length out.old) }
     ensures after { MatchBool result (Read table.now k out.new) (out.new ≡ out.old) }
 {
     if !reaches(table, k, out.len()) {

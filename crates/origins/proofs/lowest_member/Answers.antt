@@ -6,4 +6,4 @@ pub returns-then-holds : goal.returns-then-holds
 returns-then-holds c = sym (zero-lowest c.args.set.now (sym c.holds.ensures ∙ c.if-holds.true))
 
 pub returns : goal.returns
-returns c = c.next-above.ensures ∙ above-lowest c.args.set.now (sym c.holds.ensures ∙ c.if-holds.false)
+returns c = c.next_above.ensures ∙ above-lowest c.args.set.now (sym c.holds.ensures ∙ c.if-holds.false)

@@ -33,13 +33,13 @@ loop-c-preserved c =
     let n = next_is s p at e in (
       n.held,
       omega (arith, n.up, c.loop-c.invariant.1),
-      c.or-later.ensures ∙ ap (option_or c.loop-c.later) c.then-some.ensures ∙ either c.loop-c.later c.next-serves.result at
-          ∙ ap₂ (λ o b. or_else o b at) c.loop-c.invariant.2 c.next-serves.ensures ∙ sym (later_more s c.args.reach c.args.lowest p at c.loop-c.invariant.1 e),
+      c.or-later.ensures ∙ ap (option_or c.loop-c.later) c.then_some.ensures ∙ either c.loop-c.later c.next_serves.result at
+          ∙ ap₂ (λ o b. or_else o b at) c.loop-c.invariant.2 c.next_serves.ensures ∙ sym (later_more s c.args.reach c.args.lowest p at c.loop-c.invariant.1 e),
     )
 
 pub returns : goal.returns
 returns c =
     let s = c.args.set.now in
     let p = c.loop-c.highest in
-    let e = sym c.in-default.ensures in
+    let e = sym c.in_default.ensures in
     record { held = c.loop-c.invariant.0; last = e; later = c.loop-c.invariant.2 ∙ later-all s c.args.reach c.args.lowest p (member_below s p c.loop-c.invariant.0) e }

@@ -5,16 +5,16 @@ use Rattle.packing.proofs.Widths.{width_one, width_bounds, level_is, level-one}
 use Rattle.packing.proofs.Counts.{width_narrow}
 use Rattle.packing.proofs.width_at.Goals as goal
 
-pub overflow-sub-result : goal.overflow-sub-result
-overflow-sub-result c =
+pub overflow_sub-result : goal.overflow_sub-result
+overflow_sub-result c =
     let K = width_of c.args.range in
-    let e : level K c.args.i ≡ c.ilog2.result = level-one K c.args.i c.ilog2.result c.requires.first c.requires.inside c.ilog2.ensures.power_le c.ilog2.ensures.next-power-gt in
+    let e : level K c.args.i ≡ c.ilog2.result = level-one K c.args.i c.ilog2.result c.requires.first c.requires.inside c.ilog2.ensures.power_le c.ilog2.ensures.next_power_gt in
     omega (arith, (level_is K c.args.i c.requires.first c.requires.inside).below)
 
 pub returns : goal.returns
 returns c =
     let K = width_of c.args.range in
-    let e : c.top-width.result - c.ilog2.result ≡ width K c.args.i =
-    ap (λ k. k - c.ilog2.result) c.top-width.ensures ∙ width_one K c.args.i c.ilog2.result c.requires.first c.requires.inside c.ilog2.ensures.power_le c.ilog2.ensures.next-power-gt in
+    let e : c.top_width.result - c.ilog2.result ≡ width K c.args.i =
+    ap (λ k. k - c.ilog2.result) c.top_width.ensures ∙ width_one K c.args.i c.ilog2.result c.requires.first c.requires.inside c.ilog2.ensures.power_le c.ilog2.ensures.next_power_gt in
     let b = width_bounds K c.args.i c.requires.first c.requires.inside in
     record { value = e; bounds = (omega (arith, b.0), omega (arith, b.1, width_narrow c.args.range)) }

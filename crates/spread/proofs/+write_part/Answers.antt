@@ -31,8 +31,8 @@ returns-then-n-eq1 t c =
       beside = one_beside (length xs) s r p c.if-n-eq1.true c.args.table.now z.root t1 t1e;
     }
 
-pub overflow-sub-h : goal.overflow-sub-h
-overflow-sub-h t c = (node c.requires c.if-n-eq0.false).wide
+pub overflow_sub-h : goal.overflow_sub-h
+overflow_sub-h t c = (node c.requires c.if-n-eq0.false).wide
 
 pub lowest-j-requires : goal.lowest-j-requires
 lowest-j-requires t c =
@@ -42,8 +42,8 @@ lowest-j-requires t c =
 pub bounds-table-at-2 : goal.bounds-table-at-2
 bounds-table-at-2 t c = let z = node c.requires c.if-n-eq0.false in omega (arith, z.root, c.root-at.ensures)
 
-pub offset-bounds-table-at-2 : goal.offset-bounds-table-at-2
-offset-bounds-table-at-2 t c = let z = node c.requires c.if-n-eq0.false in record { fits = omega (arith, z.fits, c.requires.apart, c.root-at.ensures) }
+pub offset_bounds-table-at-2 : goal.offset_bounds-table-at-2
+offset_bounds-table-at-2 t c = let z = node c.requires c.if-n-eq0.false in record { fits = omega (arith, z.fits, c.requires.apart, c.root-at.ensures) }
 
 pub parts-right-requires : goal.parts-right-requires
 parts-right-requires t c =
@@ -53,25 +53,25 @@ parts-right-requires t c =
 pub right-requires : goal.right-requires
 right-requires t c = ((node c.requires c.if-n-eq0.false).fits, c.requires.apart)
 
-pub write-part-requires : goal.write-part-requires
-write-part-requires t c =
+pub write_part-requires : goal.write_part-requires
+write_part-requires t c =
     let z = node c.requires c.if-n-eq0.false in
     let q = c.parts-right.ensures in
     let e = c.right.ensures in
     (omega (arith, c.decreases, z.wide), z.right _ _ _ _ e.0 e.1 q.rlisted q.rsize (length-set c.args.table.now _ _))
 
-pub overflow-sub-w-2 : goal.overflow-sub-w-2
-overflow-sub-w-2 t c = (node c.requires c.if-n-eq0.false).wide
+pub overflow_sub-w-2 : goal.overflow_sub-w-2
+overflow_sub-w-2 t c = (node c.requires c.if-n-eq0.false).wide
 
 pub left-requires : goal.left-requires
 left-requires t c = ((node c.requires c.if-n-eq0.false).fits, c.requires.apart)
 
-pub write-part-requires-2 : goal.write-part-requires-2
-write-part-requires-2 t c =
+pub write_part-requires-2 : goal.write_part-requires-2
+write_part-requires-2 t c =
     let z = node c.requires c.if-n-eq0.false in
     let q = c.parts-right.ensures in
     let e = c.left.ensures in
-    (omega (arith, c.decreases, z.wide), z.left _ _ _ _ e.0 e.1 q.llisted q.lsize (c.write-part.auto.table ∙ length-set c.args.table.now _ _))
+    (omega (arith, c.decreases, z.wide), z.left _ _ _ _ e.0 e.1 q.llisted q.lsize (c.write_part.auto.table ∙ length-set c.args.table.now _ _))
 
 pub returns : goal.returns
 returns t c =
@@ -87,16 +87,16 @@ returns t c =
     let root : p ≡ pivot (full v) (among xs) = c.lowest-j.ensures.pivot ∙ ap (λ h. pivot h (among xs)) z.half in
     let t0 = c.args.table.now in
     let t1 : List ℕ = set t0 c.root-at.result p in
-    let t2 : List ℕ = c.write-part.new.table in
-    let t3 : List ℕ = c.write-part-2.new.table in
+    let t2 : List ℕ = c.write_part.new.table in
+    let t3 : List ℕ = c.write_part-2.new.table in
     let R : ℕ → ℕ = written v (among us) in
     let L : ℕ → ℕ = written v (among vs) in
     let er = c.right.ensures in
     let el = c.left.ensures in
-    let here-r : Filled t2 (length us) (2 * s) (s + r) R = moved (λ a b. Filled t2 (length us) a b R) _ _ _ _ er.0 er.1 c.write-part.ensures.here in
-    let beside-r : Beside t1 t2 (length us) (2 * s) (s + r) = moved (λ a b. Beside t1 t2 (length us) a b) _ _ _ _ er.0 er.1 c.write-part.ensures.beside in
-    let here-l : Filled t3 (length vs) (2 * s) r L = moved (λ a b. Filled t3 (length vs) a b L) _ _ _ _ el.0 el.1 c.write-part-2.ensures.here in
-    let beside-l : Beside t2 t3 (length vs) (2 * s) r = moved (λ a b. Beside t2 t3 (length vs) a b) _ _ _ _ el.0 el.1 c.write-part-2.ensures.beside in
+    let here-r : Filled t2 (length us) (2 * s) (s + r) R = moved (λ a b. Filled t2 (length us) a b R) _ _ _ _ er.0 er.1 c.write_part.ensures.here in
+    let beside-r : Beside t1 t2 (length us) (2 * s) (s + r) = moved (λ a b. Beside t1 t2 (length us) a b) _ _ _ _ er.0 er.1 c.write_part.ensures.beside in
+    let here-l : Filled t3 (length vs) (2 * s) r L = moved (λ a b. Filled t3 (length vs) a b L) _ _ _ _ el.0 el.1 c.write_part-2.ensures.here in
+    let beside-l : Beside t2 t3 (length vs) (2 * s) r = moved (λ a b. Beside t2 t3 (length vs) a b) _ _ _ _ el.0 el.1 c.write_part-2.ensures.beside in
     let ve : length vs ≡ length xs - 1 - length us = q.lsize ∙ ap (λ a. length xs - 1 - a) (sym q.rsize) in
     let t1e : t1 ≡ set t0 (s + r) p = ap (λ x. set t0 x p) c.root-at.ensures in
     let f : Filled t3 (length xs) s r (written (suc v) (among xs)) =

@@ -5,7 +5,7 @@ use Rattle.tree.proofs.climb.Goals as goal
 
 pub loop-l-init : goal.loop-l-init
 loop-l-init c =
-    climb_own c.args.k (entries c.args.table.now) c.ilog2-l.result c.args.place c.ilog2-l.ensures.power_le c.ilog2-l.ensures.next-power-gt c.requires.1.0
+    climb_own c.args.k (entries c.args.table.now) c.ilog2-l.result c.args.place c.ilog2-l.ensures.power_le c.ilog2-l.ensures.next_power_gt c.requires.1.0
 
 pub up-n-requires : goal.up-n-requires
 up-n-requires c =

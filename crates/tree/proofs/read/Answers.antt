@@ -8,12 +8,12 @@ use Rattle.tree.proofs.read.Goals as goal
 
 pub loop-l-init : goal.loop-l-init
 loop-l-init c =
-    let ys = c.copy-from-slice.new.self in
+    let ys = c.copy_from_slice.new.self in
     let z = reached c.args.table.now c.args.k (length c.args.out.now) c.requires in
-    let len : length ys ≡ length c.args.out.now = c.copy-from-slice.ensures.len in
+    let len : length ys ≡ length c.args.out.now = c.copy_from_slice.ensures.len in
     risen_none c.args.k (entries c.args.table.now) c.ilog2-l.result ys
     (λ j l.
-    ap (λ t. get_or t j 0) c.copy-from-slice.ensures.after
+    ap (λ t. get_or t j 0) c.copy_from_slice.ensures.after
     ∙ (get_or-take (length c.args.out.now + 1 - 1) (drop 1 c.args.table.now) j 0 (omega arith)
     ∙ (get_or-drop 1 c.args.table.now j 0 ∙ ap (entries c.args.table.now) (let q : 1 + j ≡ j + 1 = omega arith in q))))
     (omega (arith, two-pow-succ c.ilog2-l.result)) (omega (arith, z.1))
@@ -22,12 +22,12 @@ pub lift-requires : goal.lift-requires
 lift-requires c =
     let z = reached c.args.table.now c.args.k (length c.args.out.now) c.requires in
     let top = level-below (suc c.args.k) c.ilog2-l.result (length c.args.out.now + 1) c.ilog2-l.ensures.power_le (omega (arith, z.1, two-pow-succ c.args.k)) in
-    (omega arith, (z.0, omega (arith, z.2, c.copy-from-slice.ensures.len)))
+    (omega arith, (z.0, omega (arith, z.2, c.copy_from_slice.ensures.len)))
 
 pub loop-l-preserved : goal.loop-l-preserved
 loop-l-preserved c =
     let z = reached c.args.table.now c.args.k (length c.args.out.now) c.requires in
-    risen_more c.args.k (entries c.args.table.now) c.loop-l.l c.loop-l.out c.lift.new.out c.loop-l.invariant c.loop-l-test.true (omega (arith, z.1, c.copy-from-slice.ensures.len)) c.lift.auto.out c.lift.ensures
+    risen_more c.args.k (entries c.args.table.now) c.loop-l.l c.loop-l.out c.lift.new.out c.loop-l.invariant c.loop-l-test.true (omega (arith, z.1, c.copy_from_slice.ensures.len)) c.lift.auto.out c.lift.ensures
 
 pub returns : goal.returns
 returns c = risen_all c.args.k (entries c.args.table.now) c.loop-l.l c.loop-l.out c.loop-l-test.false c.loop-l.invariant

@@ -27,17 +27,17 @@ pub returns-then-r-eq0 : goal.returns-then-r-eq0
 returns-then-r-eq0 c =
     let n = c.args.n in
     let m = c.args.m in
-    let r = c.rem-euclid-r.result in
+    let r = c.rem_euclid-r.result in
     let none : r ≡ pos 0 = omega (arith, ints) in
     let some : m ≡ pos (nat_abs m) = omega (arith, ints) in
-    let e = rest n m r c.ranges.n c.ranges.m c.rem-euclid-r.ensures.value in
+    let e = rest n m r c.ranges.n c.ranges.m c.rem_euclid-r.ensures.value in
     to_z-of_z w32 m c.ranges.m ∙ (some ∙ ap pos (sym (rem_none n m (omega (arith, ints)) (sym e ∙ none))))
 
 pub returns-else-r-eq0 : goal.returns-else-r-eq0
 returns-else-r-eq0 c =
     let n = c.args.n in
     let m = c.args.m in
-    let r = c.rem-euclid-r.result in
-    let e = rest n m r c.ranges.n c.ranges.m c.rem-euclid-r.ensures.value in
-    to_z-of_z w32 r (record { sfits = c.rem-euclid-r.type-inv })
+    let r = c.rem_euclid-r.result in
+    let e = rest n m r c.ranges.n c.ranges.m c.rem_euclid-r.ensures.value in
+    to_z-of_z w32 r (record { sfits = c.rem_euclid-r.type_inv })
     ∙ (e ∙ rem_some n m (omega (arith, ints)) (λ z. c.if-r-eq0.false (ap (of_z w32) (e ∙ z))))

@@ -5,5 +5,5 @@ use Rattle.tree.proofs.up_left.Goals as goal
 
 pub returns : goal.returns
 returns c =
-    smod-read c.left-sum.result c.smod.result c.args.size (record { sfits = c.left-sum.type-inv }) (record { sfits = c.smod.type-inv }) c.requires.0 c.requires.1 c.smod.ensures
-    ∙ ap (λ x. smodℤ x (2 * c.args.size - 1)) c.left-sum.ensures
+    smod-read c.left_sum.result c.smod.result c.args.size (record { sfits = c.left_sum.type_inv }) (record { sfits = c.smod.type_inv }) c.requires.0 c.requires.1 c.smod.ensures
+    ∙ ap (λ x. smodℤ x (2 * c.args.size - 1)) c.left_sum.ensures

@@ -1,4 +1,4 @@
-use Rattle.std.proofs.Common.{◌*◌, ◌/◌, ◌%◌, ◌^◌, ◌<◌, false, get_or, refl, ◌∙◌, arith}
+use Rattle.std.proofs.Common.{◌/◌, ◌%◌, false, get_or, refl, arith}
 use Rattle.bits.proofs.Digits.{bit_taken}
 use Rattle.channels.proofs.Ops.{put_is}
 use Rattle.channels.proofs.ChannelSet.clear_bit.Goals as goal

@@ -1,6 +1,5 @@
-use Rattle.std.proofs.Common.{sym, refl, ap, ◌∙◌}
+use Rattle.std.proofs.Common.{sym, refl, ◌∙◌}
 use Rattle.bits.proofs.Digits.{bit-zero, ones_bit}
-use Rattle.channels.specs.Sets.{set_of}
 use Rattle.channels.proofs.Ops.{filled_is}
 use Rattle.channels.proofs.ChannelSet.filled.Goals as goal
 

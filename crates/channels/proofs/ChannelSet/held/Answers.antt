@@ -4,4 +4,4 @@ use Rattle.channels.proofs.ChannelSet.held.Goals as goal
 
 pub returns : goal.returns
 unfolding holds bit_in
-returns c = c.bit-of.ensures
+returns c = c.bit_of.ensures

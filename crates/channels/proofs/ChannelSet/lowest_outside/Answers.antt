@@ -1,4 +1,4 @@
-use Rattle.std.proofs.Common.{◌+◌, ◌*◌, ◌<◌, sym, arith}
+use Rattle.std.proofs.Common.{◌*◌, sym, arith}
 use Rattle.bits.proofs.Lows.{lowest_is_none}
 use Rattle.bits.proofs.Lists.{low-here, none_here}
 use Rattle.channels.specs.Sets.{strays}

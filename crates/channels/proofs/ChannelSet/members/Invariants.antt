@@ -1,4 +1,4 @@
-use Rattle.std.proofs.Common.{◌≡◌, ℕ, ◌*◌, length, drop}
+use Rattle.std.proofs.Common.{◌≡◌, ◌*◌, drop}
 use Rattle.channels.specs.Sets.{Listed}
 use Rattle.channels.proofs.ChannelSet.members.Given as goal
 

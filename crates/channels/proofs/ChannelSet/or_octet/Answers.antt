@@ -16,7 +16,7 @@ returns-then-r-gt56 c =
     let o = c.args.octet in
     let small : o < 256 = omega arith in
     set_is _ (λ k. holds s k || (leb from k && bit o (k - from))) (λ k l.
-    c.or-word-then-r-gt56.ensures k ∙ ap (λ x. x || upper o from k small) (c.or-word.ensures k)
+    c.or_word-then-r-gt56.ensures k ∙ ap (λ x. x || upper o from k small) (c.or_word.ensures k)
     ∙ or_assoc (holds s k) (lower o from k small) (upper o from k small) ∙ ap (λ x. holds s k || x) (sym (eight_bits o from k small)))
 
 pub returns-else-r-gt56 : goal.returns-else-r-gt56
@@ -26,4 +26,4 @@ returns-else-r-gt56 c =
     let o = c.args.octet in
     let small : o < 256 = omega arith in
     set_is _ (λ k. holds s k || (leb from k && bit o (k - from))) (λ k l.
-    c.or-word.ensures k ∙ ap (λ x. holds s k || x) (sym (eight_low o from k small c.if-r-gt56.false)))
+    c.or_word.ensures k ∙ ap (λ x. holds s k || x) (sym (eight_low o from k small c.if-r-gt56.false)))

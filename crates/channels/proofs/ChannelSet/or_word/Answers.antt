@@ -6,13 +6,13 @@ use Rattle.bits.proofs.Lists.{fit-set}
 use Rattle.channels.proofs.Ops.{or_word}
 use Rattle.channels.proofs.ChannelSet.or_word.Goals as goal
 
-pub invariant-of-self : goal.invariant-of-self
-invariant-of-self c =
+pub invariant_of-self : goal.invariant_of-self
+invariant_of-self c =
     let s = c.args.self.now in
     let i = c.args.i in
     let v = bit_or (get_or s.words i 0) c.args.w in
     let fits : v < 2 ^ 64 = or_lt 64 (get_or s.words i 0) c.args.w (s.fits i) (omega arith) in
-    (length-set s.words i v ∙ s.whole, (fit-set s.words i v fits s.fits, tt))
+    record { whole = length-set s.words i v ∙ s.whole; fits = fit-set s.words i v fits s.fits }
 
 pub returns : goal.returns
 returns c k = or_word c.args.self.now _ c.args.i c.args.w c.requires refl k

@@ -1,4 +1,4 @@
-use Rattle.std.proofs.Common.{◌+◌, ◌-◌, ◌*◌, ◌%◌, ◌<◌, ◌∙◌, arith}
+use Rattle.std.proofs.Common.{◌+◌, ◌-◌, ◌%◌, ◌∙◌, arith}
 use Rattle.std.proofs.lemmas.List.{length-set}
 use Rattle.bits.proofs.Lists.{fit-set}
 use Rattle.channels.specs.Sets.{holds}
@@ -12,7 +12,7 @@ loop-i-preserved c =
     let m = c.loop-i.moved in
     let i = c.loop-i.i in
     let v = c.joined.result in
-    (length-set m i v ∙ c.loop-i.invariant.0, fit-set m i v c.joined.type-inv c.loop-i.invariant.1, turned_more s c.args.d i v m (omega arith) (omega arith) c.loop-i.invariant.0 c.loop-i.invariant.2 c.joined.ensures)
+    (length-set m i v ∙ c.loop-i.invariant.0, fit-set m i v c.joined.type_inv c.loop-i.invariant.1, turned_more s c.args.d i v m (omega arith) (omega arith) c.loop-i.invariant.0 c.loop-i.invariant.2 c.joined.ensures)
 
 pub returns : goal.returns
 returns c =

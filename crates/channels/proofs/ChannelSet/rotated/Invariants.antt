@@ -1,4 +1,4 @@
-use Rattle.std.proofs.Common.{◌≡◌, ℕ, ◌+◌, ◌-◌, ◌*◌, ◌%◌, ◌^◌, ◌<◌, length}
+use Rattle.std.proofs.Common.{◌≡◌, ℕ, ◌+◌, ◌-◌, ◌*◌, ◌%◌, ◌<◌, length}
 use Rattle.bits.specs.Bits.{bit_in, Fit}
 use Rattle.channels.specs.Sets.{holds}
 use Rattle.channels.proofs.ChannelSet.rotated.Given as goal

@@ -7,14 +7,14 @@ use Rattle.bits.proofs.Lists.{fit-set}
 use Rattle.channels.proofs.Ops.{put_is}
 use Rattle.channels.proofs.ChannelSet.set_bit.Goals as goal
 
-pub invariant-of-self : goal.invariant-of-self
-invariant-of-self c =
+pub invariant_of-self : goal.invariant_of-self
+invariant_of-self c =
     let s = c.args.self.now in
     let i = c.args.c / 64 in
     let m = (1 * 2 ^ (c.args.c % 64)) % 2 ^ 64 in
     let v = bit_or (get_or s.words i 0) m in
     let fits : v < 2 ^ 64 = or_lt 64 (get_or s.words i 0) m (s.fits i) (mod_below (1 * 2 ^ (c.args.c % 64)) (2 ^ 64) (omega arith)) in
-    (length-set s.words i v ∙ s.whole, (fit-set s.words i v fits s.fits, tt))
+    record { whole = length-set s.words i v ∙ s.whole; fits = fit-set s.words i v fits s.fits }
 
 pub returns : goal.returns
 returns c =

@@ -11,11 +11,11 @@ pub loop-i-init : goal.loop-i-init
 unfolding tally
 loop-i-init c = refl
 
-pub overflow-cast-n : goal.overflow-cast-n
-overflow-cast-n c = let s = c.args.self.now in omega (arith, ones-le 64 (get_or s.words c.loop-i.i 0) (s.fits c.loop-i.i))
+pub overflow_cast-n : goal.overflow_cast-n
+overflow_cast-n c = let s = c.args.self.now in omega (arith, ones-le 64 (get_or s.words c.loop-i.i 0) (s.fits c.loop-i.i))
 
-pub overflow-add-n : goal.overflow-add-n
-overflow-add-n c =
+pub overflow_add-n : goal.overflow_add-n
+overflow_add-n c =
     let s = c.args.self.now in
     let i = c.loop-i.i in
     omega (arith, ones-le 64 (get_or s.words i 0) (s.fits i), c.loop-i.invariant, tally_le (holds s) (64 * i))

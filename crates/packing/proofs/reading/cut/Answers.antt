@@ -2,8 +2,8 @@ use Rattle.std.proofs.Common.{◌≡◌, ◌+◌, ◌-◌, ◌*◌, ◌%◌, ◌
 use Rattle.std.proofs.lemmas.Nat.{shr_below, mod_below}
 use Rattle.packing.proofs.reading.cut.Goals as goal
 
-pub overflow-cast-result-2 : goal.overflow-cast-result-2
-overflow-cast-result-2 c =
+pub overflow_cast-result-2 : goal.overflow_cast-result-2
+overflow_cast-result-2 c =
     let w = c.args.wide in
     let v = (c.args.bits * 2 ^ c.args.skip) % 2 ^ 64 in
     let e : w + (64 - w) ≡ 64 = omega arith in

@@ -3,7 +3,6 @@ use Rattle.faults.specs.declared.FormatFault.{FormatFault}
 use Rattle.packing.specs.declared.Range.{Range}
 use Rattle.std.proofs.lemmas.Bool.{cases_eq}
 use Rattle.packing.specs.Ranges.{width_of}
-use Rattle.packing.specs.Fields.{before}
 use Rattle.packing.specs.Reading.{number_in, unpacked, leading, filled, Unpacked}
 use Rattle.packing.proofs.Counts.{place-near}
 use Rattle.packing.proofs.Widths.{before-none}
@@ -24,14 +23,14 @@ take-number-requires c =
 
 pub behind-requires : goal.behind-requires
 behind-requires c =
-    let w = c.width-at-wide.ensures.value in
+    let w = c.width_at-wide.ensures.value in
     record {
       first = omega arith;
       inside = omega arith;
       few = c.requires.few;
       small = c.requires.small;
       present = c.requires.present;
-      place = c.take-number.ensures.place ∙ step_end c.args.range c.loop-i.i c.loop-i.reader.at c.width-at-wide.result (omega arith) c.loop-i.invariant.0 w;
+      place = c.take-number.ensures.place ∙ step_end c.args.range c.loop-i.i c.loop-i.reader.at c.width_at-wide.result (omega arith) c.loop-i.invariant.0 w;
       shows = c.take-number.ensures.shows;
     }
 
@@ -46,7 +45,7 @@ returns-then-number-eq0 c =
     let r = c.args.range in
     let os = c.args.contents.now in
     let i = c.loop-i.i in
-    let e = step-read r os i c.loop-i.reader.at c.width-at-wide.result c.take-number.result c.loop-i.invariant.0 c.width-at-wide.ensures.value c.take-number.ensures.value in
+    let e = step-read r os i c.loop-i.reader.at c.width_at-wide.result c.take-number.result c.loop-i.invariant.0 c.width_at-wide.ensures.value c.take-number.ensures.value in
     let f = first_is r os i (omega arith) (omega (arith, c.requires.present)) (sym e ∙ c.if-number-eq0.true) c.loop-i.invariant.3 in
     let d = answered r os c.args.numbers.now c.loop-i.numbers (i - 1) c.behind.result (c.behind.ensures ∙ unpacked-first r os i f) (leading-first r os i f) c.loop-i.invariant.2 (omega arith) in
     record { value = d.0; table = d.1; meaning = d.2 }
@@ -56,8 +55,8 @@ loop-i-preserved c =
     let r = c.args.range in
     let os = c.args.contents.now in
     let i = c.loop-i.i in
-    let e = step-read r os i c.loop-i.reader.at c.width-at-wide.result c.take-number.result c.loop-i.invariant.0 c.width-at-wide.ensures.value c.take-number.ensures.value in (
-      c.take-number.ensures.place ∙ step-place r i c.loop-i.reader.at c.width-at-wide.result (omega arith) c.loop-i.invariant.0 c.width-at-wide.ensures.value,
+    let e = step-read r os i c.loop-i.reader.at c.width_at-wide.result c.take-number.result c.loop-i.invariant.0 c.width_at-wide.ensures.value c.take-number.ensures.value in (
+      c.take-number.ensures.place ∙ step-place r i c.loop-i.reader.at c.width_at-wide.result (omega arith) c.loop-i.invariant.0 c.width_at-wide.ensures.value,
       c.take-number.ensures.shows,
       filled_more (number_in r os) i c.take-number.result c.args.numbers.now c.loop-i.numbers (omega arith) c.loop-i.invariant.2 e,
       λ m a b z. ⊎_elim (λ same. c.if-number-eq0.false (e ∙ ap (number_in r os) (sym same) ∙ z)) (λ other. c.loop-i.invariant.3 m a (omega arith) z) (cases_eq m i),

@@ -9,8 +9,8 @@ use Rattle.packing.proofs.Readings.{step-place}
 use Rattle.packing.proofs.Packings.{packs, laid_none, laid-step}
 use Rattle.packing.proofs.writing.lay.Goals as goal
 
-pub overflow-add-end : goal.overflow-add-end
-overflow-add-end c = record { fits = omega (arith, slots_small c.args.range c.args.len, c.requires.packable.few) }
+pub overflow_add-end : goal.overflow_add-end
+overflow_add-end c = record { fits = omega (arith, slots_small c.args.range c.args.len, c.requires.packable.few) }
 
 pub loop-i-init : goal.loop-i-init
 loop-i-init c = (
@@ -20,11 +20,11 @@ loop-i-init c = (
   λ x h. sym (laid_none (width_of c.args.range) (start_of c.args.range) (bit_at c.put.new.out) (λ i. get_or c.args.numbers.now i 0) x),
 )
 
-pub width-at-wide-requires : goal.width-at-wide-requires
-width-at-wide-requires c = record { first = omega arith; inside = omega (arith, slots-few c.args.range c.args.len, c.requires.packable.few) }
+pub width_at-wide-requires : goal.width_at-wide-requires
+width_at-wide-requires c = record { first = omega arith; inside = omega (arith, slots-few c.args.range c.args.len, c.requires.packable.few) }
 
-pub offset-bounds-numbers-i : goal.offset-bounds-numbers-i
-offset-bounds-numbers-i c = record { fits = omega (arith, slots_small c.args.range c.args.len, c.requires.packable.few) }
+pub offset_bounds-numbers-i : goal.offset_bounds-numbers-i
+offset_bounds-numbers-i c = record { fits = omega (arith, slots_small c.args.range c.args.len, c.requires.packable.few) }
 
 pub bounds-numbers-i : goal.bounds-numbers-i
 bounds-numbers-i c = omega (arith, slots_small c.args.range c.args.len, c.requires.packable.few)
@@ -32,25 +32,25 @@ bounds-numbers-i c = omega (arith, slots_small c.args.range c.args.len, c.requir
 pub put-requires-in-loop-i : goal.put-requires-in-loop-i
 put-requires-in-loop-i c =
     let r = c.args.range in
-    let w = c.width-at-wide.ensures.value in
+    let w = c.width_at-wide.ensures.value in
     record {
       near = omega (arith, place-near r (c.loop-i.i - 1) (omega (arith, slots_small r c.args.len, c.requires.packable.few)));
       within = omega arith;
       narrow = subst (λ n. get_or c.args.numbers.now c.loop-i.i 0 < 2 ^ n) (sym w) (c.requires.packable.narrow c.loop-i.i (omega arith) (omega arith));
     }
 
-pub overflow-add-at : goal.overflow-add-at
-overflow-add-at c = record { fits = omega (arith, place-near c.args.range (c.loop-i.i - 1) (omega (arith, slots_small c.args.range c.args.len, c.requires.packable.few))) }
+pub overflow_add-at : goal.overflow_add-at
+overflow_add-at c = record { fits = omega (arith, place-near c.args.range (c.loop-i.i - 1) (omega (arith, slots_small c.args.range c.args.len, c.requires.packable.few))) }
 
 pub loop-i-preserved : goal.loop-i-preserved
 loop-i-preserved c =
     let r = c.args.range in
     let i = c.loop-i.i in
-    let w = c.width-at-wide.ensures.value in (
+    let w = c.width_at-wide.ensures.value in (
       c.put-in-loop-i.array_long,
       c.put-in-loop-i.ensures.octets,
-      step-place r i c.loop-i.at c.width-at-wide.result (omega arith) c.loop-i.invariant.2 w,
-      λ x h. laid-step r (bit_at c.put.new.out) (λ j. get_or c.args.numbers.now j 0) i c.loop-i.at c.width-at-wide.result (get_or c.args.numbers.now i 0) x
+      step-place r i c.loop-i.at c.width_at-wide.result (omega arith) c.loop-i.invariant.2 w,
+      λ x h. laid-step r (bit_at c.put.new.out) (λ j. get_or c.args.numbers.now j 0) i c.loop-i.at c.width_at-wide.result (get_or c.args.numbers.now i 0) x
           (bit_at c.loop-i.out x) (bit_at c.put-in-loop-i.new.out x) (omega arith) c.loop-i.invariant.2 w refl (c.loop-i.invariant.3 x h) (c.put-in-loop-i.ensures.bits x h),
     )
 
