@@ -1,5 +1,5 @@
 -- What a format is, and the pile that it makes.
-use Rattle.std.specs.Prelude.{◌≡◌, ℕ, ◌<◌, ◌≤◌, Bool, true, cond, List, ◌∷◌, length, Some, None, Ok, Err, Option, Result, slice_index}
+use Rattle.std.specs.Prelude.{ℕ, Bool, cond, List, length, Some, None, Ok, Err, Option, Result, slice_index}
 use Rattle.channels.specs.declared.ChannelSet.{ChannelSet}
 use Rattle.faults.specs.declared.FormatFault.{FormatFault}
 use Rattle.faults.specs.declared.FormatFault.TheVariants.{Length}

@@ -1,6 +1,6 @@
 -- Bit map 0 reads back what it writes, and writes whatever it can read.
-use Rattle.std.specs.Prelude.{◌≡◌, ℕ, zero, suc, ◌+◌, ◌-◌, ◌*◌, ◌/◌, ◌%◌, ◌^◌, ◌<◌, ◌≤◌, Bool, true, false, not, ◌&&◌, ◌||◌, ◌⊎◌, List, [], ◌∷◌, length, is_some, Some, None, Ok, Option, Result, nat_le, nat_lt, slice_index, slice_index_or, refl}
-use Rattle.std.proofs.Common.{sym, ◌∙◌, ap, ap₂, inl, inr, ⊎_elim, arith}
+use Rattle.std.specs.Prelude.{◌≡◌, ℕ, zero, suc, ◌+◌, ◌-◌, ◌*◌, ◌/◌, ◌%◌, ◌<◌, Bool, true, false, not, ◌&&◌, ◌||◌, List, ◌∷◌, length, is_some, Some, None, Ok, Option, nat_le, nat_lt, slice_index, slice_index_or, refl}
+use Rattle.std.proofs.Common.{sym, ◌∙◌, ap, ap₂, ⊎_elim, arith}
 use Rattle.std.proofs.Math.Path.{fun_ext}
 use Rattle.std.proofs.lemmas.List.FromFn.{length-map-range_with_len, get_or-map-range_with_len}
 use Rattle.std.proofs.ByRecursion.{All-from_get_or}
@@ -10,10 +10,9 @@ use Rattle.bits.specs.Lowest.{lowest}
 use Rattle.bits.proofs.Lows.{lowest-none, lowest-some, lowest_is_none}
 use Rattle.bits.proofs.Digits.{bit-number, number-below, bit_mod, bit_past, bits_below}
 use Rattle.channels.specs.declared.ChannelSet.{ChannelSet}
-use Rattle.channels.specs.Sets.{holds, set_of, no_channels, eight_from, put_eight, above, next_above}
+use Rattle.channels.specs.Sets.{holds, set_of, no_channels, put_eight, above, next_above}
 use Rattle.channels.proofs.Views.{same_set, set_is, holds_of, holds-past, holds-none}
 use Rattle.channels.proofs.Ops.{or_false}
-use Rattle.faults.specs.declared.FormatFault.{FormatFault}
 use Rattle.piles.specs.Flagged.{plain}
 use Rattle.piles.specs.Laws.{Octets}
 use Rattle.piles.specs.Calls.{some-none}

@@ -1,5 +1,5 @@
 -- It keeps the laws: what reads nothing has nothing to show but its refusals.
-use Rattle.std.specs.Prelude.{◌≡◌, ◌≤◌, refl}
+use Rattle.std.specs.Prelude.{◌≡◌, refl}
 use Rattle.std.proofs.Common.{sym, ap, arith}
 use Rattle.piles.specs.Laws.{Lawful, number}
 use Rattle.piles.specs.Calls.{err_ok, err_same}

@@ -1,5 +1,5 @@
 -- A pile that claims every first octet, and reads and writes nothing.
-use Rattle.std.specs.Prelude.{ℕ, true, Err}
+use Rattle.std.specs.Prelude.{true, Err}
 use Rattle.faults.specs.declared.Cause.TheVariants.{NumberAfterNull, OutsideLicence}
 use Rattle.faults.specs.declared.Layer.TheVariants.{Pile, Volume}
 use Rattle.faults.specs.declared.PileFault.TheVariants.{Maker}

@@ -1,5 +1,7 @@
 // A pile as an equipment maker may write it, in small: it claims every first octet, and neither reads nor writes anything.
 // Its refusals are its own: a number that piles may give, with a layer and a place of its choice.
+#![tactic(auto)]
+
 ghost use Rattle.std.specs.Prelude.{◌≡◌};
 ghost use Rattle.mute.specs.Mute.{mute};
 ghost use Rattle.mute.specs.Lawful.{mute_lawful};

@@ -1,12 +1,12 @@
 -- One list filed: what the tried lengths give, in the words of the pile's reading.
-use Rattle.std.proofs.Common.{◌≡◌, ℕ, zero, suc, ◌+◌, ◌*◌, ◌/◌, ◌%◌, ◌<◌, ◌≤◌, Bool, true, false, cond, ◌⊎◌, List, [], ◌∷◌, length, get_or, take, drop, set, Some, None, Ok, Err, Result, sym, refl, ap, ◌∙◌, ⊎_elim, arith}
+use Rattle.std.proofs.Common.{◌≡◌, ℕ, zero, suc, ◌<◌, ◌≤◌, Bool, true, false, cond, List, [], ◌∷◌, length, get_or, take, drop, set, Some, Ok, Err, Result, sym, refl, ap, ◌∙◌, ⊎_elim, arith}
 use Rattle.std.specs.Result.{result_ok}
 use Rattle.std.proofs.lemmas.List.{drop-set-lt, length-take}
 use Rattle.std.proofs.lemmas.Bool.{cases_eq}
 use Rattle.channels.specs.declared.ChannelSet.{ChannelSet}
 use Rattle.faults.specs.declared.PileFault.{PileFault}
 use Rattle.piles.specs.declared.flags.Flags.{Flags}
-use Rattle.piles.specs.Flagged.{plain, flag_number, flagged, flagged_first}
+use Rattle.piles.specs.Flagged.{plain, flagged, flagged_first}
 use Rattle.piles.specs.Laws.{Meaning, Lawful, Octets}
 use Rattle.piles.specs.Filing.{Never, octets_of, Served, Marked, NotComposed}
 

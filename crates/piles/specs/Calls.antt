@@ -1,7 +1,6 @@
 -- What a caller of read and write learns.
-use Rattle.std.specs.Prelude.{◌≡◌, ℕ, Bool, List, ◌++◌, Some, None, Ok, Err, Option, Result, ◌≢◌, refl}
-use Rattle.std.proofs.Common.{sym, ◌∙◌, ap, arith}
-use Rattle.channels.specs.declared.ChannelSet.{ChannelSet}
+use Rattle.std.specs.Prelude.{◌≡◌, ℕ, Some, None, Ok, Err, Option, Result, ◌≢◌}
+use Rattle.std.proofs.Common.{arith}
 use Rattle.faults.specs.declared.PileFault.{PileFault}
 
 pub err_ok : {X : Type 0} {f : PileFault} {x : X} → ◌≡◌ {A = Result X PileFault} (Err f) (Ok x) → ⊥

@@ -1,10 +1,8 @@
 -- The piles that are made of others keep the laws.
-use Rattle.std.specs.Prelude.{◌≡◌, ℕ, zero, suc, ◌+◌, ◌*◌, ◌/◌, ◌%◌, ◌<◌, ◌≤◌, Bool, true, false, cond, not, ◌&&◌, ◌||◌, ◌⊎◌, List, [], ◌∷◌, length, Some, None, Ok, Err, Option, Result, nat_lt, slice_index, refl}
-use Rattle.std.proofs.Common.{sym, ◌∙◌, ap, subst, inl, inr, ⊎_elim, arith}
+use Rattle.std.specs.Prelude.{◌≡◌, ℕ, suc, ◌<◌, ◌≤◌, Bool, true, false, cond, ◌&&◌, ◌||◌, ◌⊎◌, List, ◌∷◌, length, Some, None, Ok, Err, Option, Result, nat_lt, slice_index, refl}
+use Rattle.std.proofs.Common.{sym, ◌∙◌, ap, inl, inr, ⊎_elim, arith}
 use Rattle.std.specs.Result.{result_ok}
-use Rattle.std.specs.List.{AllByRecursion as All}
-use Rattle.std.proofs.lemmas.Bool.{and_parts, ltb-true, lt-ltb, and_from, both_ways, or_left, or_right}
-use Rattle.std.proofs.lemmas.Bool.Decides.{nat_tests}
+use Rattle.std.proofs.lemmas.Bool.{lt-ltb, and_from, both_ways, or_left, or_right}
 use Rattle.std.proofs.ByRecursion.{All-get_or}
 use Rattle.channels.specs.declared.ChannelSet.{ChannelSet}
 use Rattle.channels.specs.Sets.{first_outside}
@@ -13,8 +11,8 @@ use Rattle.claims.specs.declared.Claims.{Claims}
 use Rattle.claims.specs.Views.{claims, both, shared}
 use Rattle.faults.specs.declared.FormatFault.TheVariants.{Length}
 use Rattle.faults.specs.declared.PileFault.{PileFault}
-use Rattle.faults.specs.declared.PileFault.TheVariants.{Format, Unclaimed, SharedClaim, OutsideLicence}
-use Rattle.piles.specs.Laws.{sized, Claim, Reading, Writing, Laws, Meaning, Lawful, Sound, Written, Octets, number}
+use Rattle.faults.specs.declared.PileFault.TheVariants.{Format, Unclaimed}
+use Rattle.piles.specs.Laws.{sized, Claim, Reading, Writing, Laws, Meaning, Lawful, Octets, number}
 use Rattle.piles.specs.Flagged.{plain}
 use Rattle.piles.specs.Calls.{err_ok, err_same, ok_same, some-none}
 use Rattle.piles.specs.Combined.{claim_by, side_reads, read_by, first_ok, write_by, within, held, beside_of, licence_of}

@@ -1,5 +1,5 @@
 -- The meanings of the piles that are made of others.
-use Rattle.std.specs.Prelude.{ℕ, Bool, true, false, cond, not, ◌&&◌, ◌||◌, List, length, Some, None, Ok, Err, Option, Result, slice_index}
+use Rattle.std.specs.Prelude.{ℕ, false, cond, ◌||◌, length, Some, None, Ok, Err, Option, Result, slice_index}
 use Rattle.channels.specs.declared.ChannelSet.{ChannelSet}
 use Rattle.channels.specs.Sets.{first_outside}
 use Rattle.claims.specs.Views.{shared}

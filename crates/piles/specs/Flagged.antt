@@ -1,5 +1,5 @@
 -- The flags of a list, in bits 6 and 5 of its first octet.
-use Rattle.std.specs.Prelude.{ℕ, ◌+◌, ◌*◌, ◌/◌, ◌%◌, Bool, cond, List, [], ◌∷◌}
+use Rattle.std.specs.Prelude.{ℕ, ◌+◌, ◌*◌, ◌/◌, ◌%◌, cond, List, [], ◌∷◌}
 use Rattle.piles.specs.declared.flags.Flags.{Flags}
 
 -- an octet with its bits 6 and 5 put to 0

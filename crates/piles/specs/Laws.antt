@@ -1,7 +1,7 @@
 -- What a pile means, and the laws that it keeps.
-use Rattle.std.specs.Prelude.{◌≡◌, ℕ, ◌+◌, ◌*◌, ◌/◌, ◌%◌, ◌<◌, ◌≤◌, Bool, true, false, ◌&&◌, List, [], ◌∷◌, ◌++◌, length, take, drop, Ok, Err, Result, ◌≢◌, nat_lt, slice_index}
+use Rattle.std.specs.Prelude.{◌≡◌, ℕ, ◌<◌, ◌≤◌, Bool, true, ◌&&◌, List, ◌∷◌, length, take, drop, Ok, Err, Result, ◌≢◌, nat_lt, slice_index}
 use Rattle.std.specs.Result.{result_ok}
-use Rattle.std.specs.List.{AllByRecursion as All}
+use Rattle.std.specs.List.{AllByRecursion}
 use Rattle.channels.specs.declared.ChannelSet.{ChannelSet}
 use Rattle.faults.specs.declared.PileFault.{PileFault}
 use Rattle.faults.specs.Refusals.{of_pile}
@@ -16,7 +16,7 @@ abbrev pub sized : ℕ → Bool
 sized n = nat_lt 0 n && nat_lt n 131
 
 abbrev pub Octets : List ℕ → Type 0
-Octets os = All (λ o. o < 256) os
+Octets os = AllByRecursion (λ o. o < 256) os
 
 -- a meaning: the first octets claimed, what contents are read as, what is written for a set at a length
 abbrev pub Claim : Type 0

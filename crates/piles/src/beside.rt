@@ -17,7 +17,7 @@ pub struct Beside<A, B> {
 
 // The lowest first octet that both claim.
 fn clash<A: Pile, B: Pile>(a: &A, b: &B) -> Option<u8>
-    ensures { result ≡ shared (A.Pile.meaning a.now).claimed (B.Pile.meaning b.now).claimed }
+    ensures { result ≡ shared (A.meaning a.now).claimed (B.meaning b.now).claimed }
 {
     let x = a.claims();
     let y = b.claims();
@@ -26,7 +26,7 @@ fn clash<A: Pile, B: Pile>(a: &A, b: &B) -> Option<u8>
 
 // What either claims, unless they claim something in common.
 fn joint<A: Pile, B: Pile>(a: &A, b: &B) -> Claims
-    ensures { (o : ℕ) → o < 256 → claims result o ≡ (beside_of (A.Pile.meaning a.now) (B.Pile.meaning b.now)).claimed o }
+    ensures { (o : ℕ) → o < 256 → claims result o ≡ (beside_of (A.meaning a.now) (B.meaning b.now)).claimed o }
 {
     let x = a.claims();
     let y = b.claims();
@@ -37,16 +37,16 @@ fn joint<A: Pile, B: Pile>(a: &A, b: &B) -> Claims
 }
 
 fn claims_one<P: Pile>(p: &P, o: u8) -> bool
-    ensures { result ≡ (meaning p.now).claimed o }
+    ensures { result ≡ (P.meaning p.now).claimed o }
 {
     let c = p.claims();
     c.has(o)
 }
 
 impl<A: Pile, B: Pile> Pile for Beside<A, B> {
-    ghost meaning = { λ p. beside_of (A.Pile.meaning p.first) (B.Pile.meaning p.second) };
+    ghost meaning = { λ p. beside_of (A.meaning p.first) (B.meaning p.second) };
 
-    ghost lawful = { λ p. beside_keeps (A.Pile.meaning p.first) (B.Pile.meaning p.second) (A.Pile.lawful p.first) (B.Pile.lawful p.second) };
+    ghost lawful = { λ p. beside_keeps (A.meaning p.first) (B.meaning p.second) (A.lawful p.first) (B.lawful p.second) };
 
     fn claims(&self) -> Claims {
         joint(&self.first, &self.second)

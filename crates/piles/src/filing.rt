@@ -15,7 +15,7 @@ fn shortest<P: Pile>(
     lengths: Lengths,
     out: &mut [u8; 130],
 ) -> Result<usize, PileFault>
-    ensures { Shortest (meaning pile.now) set.now lengths.least lengths.most result out.old out.new }
+    ensures { Shortest (P.meaning pile.now) set.now lengths.least lengths.most result out.old out.new }
 {
     let most = lengths.most();
     for len in lengths.least()..most {
@@ -29,8 +29,8 @@ fn shortest<P: Pile>(
 
 // Puts flags into contents of `len` octets, which are read as before.
 fn mark<P: Pile>(pile: &P, set: &ChannelSet, len: usize, flags: Flags, out: &mut [u8; 130])
-    requires { (meaning pile.now).reads (take len out.old) ≡ Ok set.now }
-    ensures { Marked (meaning pile.now) set.now len flags out.old out.new }
+    requires { (P.meaning pile.now).reads (take len out.old) ≡ Ok set.now }
+    ensures { Marked (P.meaning pile.now) set.now len flags out.old out.new }
 {
     out[0] = flags.put_into(out[0]);
 }
@@ -43,7 +43,7 @@ pub fn compose<P: Pile>(
     flags: Flags,
     out: &mut [u8; 130],
 ) -> Result<usize, PileFault>
-    ensures { Composes (meaning pile.now) set.now lengths.least lengths.most flags result out.old out.new }
+    ensures { Composes (P.meaning pile.now) set.now lengths.least lengths.most flags result out.old out.new }
 {
     let len = shortest(pile, set, lengths, out)?;
     mark(pile, set, len, flags, out);

@@ -1,5 +1,7 @@
 // Piles: ways of putting a set of channels into octets. Each format is a pile, and so is what is made of piles; an
 // equipment maker's own is one by showing the same laws.
+#![tactic(auto)]
+
 pub mod beside;
 pub mod filing;
 pub mod flags;

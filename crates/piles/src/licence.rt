@@ -15,9 +15,9 @@ pub struct Licence<P> {
 }
 
 impl<P: Pile> Pile for Licence<P> {
-    ghost meaning = { λ p. licence_of p.allowed (P.Pile.meaning p.pile) };
+    ghost meaning = { λ p. licence_of p.allowed (P.meaning p.pile) };
 
-    ghost lawful = { λ p. licence_keeps p.allowed (P.Pile.meaning p.pile) (P.Pile.lawful p.pile) };
+    ghost lawful = { λ p. licence_keeps p.allowed (P.meaning p.pile) (P.lawful p.pile) };
 
     fn claims(&self) -> Claims {
         self.pile.claims()

@@ -1,6 +1,6 @@
 -- Sets that are gathered from distances.
-use Rattle.std.proofs.Common.{◌≡◌, ℕ, suc, ◌+◌, ◌-◌, ◌%◌, ◌^◌, ◌<◌, ◌≤◌, Bool, true, false, cond, ◌&&◌, ◌||◌, eqb, ltb, leb, List, length, get_or, is_some, Some, None, Ok, MatchBool, Option, sym, refl, ap, ◌∙◌, subst, ap₂, ⊎_elim, add-one, arith}
-use Rattle.std.proofs.lemmas.Bool.{eq-eqb, ne_eqb, cond-true, cond-false, cases_eq, cases_lt, and_from, le-leb, lt-ltb}
+use Rattle.std.proofs.Common.{◌≡◌, ℕ, suc, ◌+◌, ◌%◌, ◌^◌, ◌<◌, ◌≤◌, Bool, true, false, cond, ◌&&◌, ◌||◌, eqb, ltb, leb, List, length, get_or, is_some, Some, None, Ok, MatchBool, Option, sym, refl, ap, ◌∙◌, subst, ap₂, ⊎_elim, add-one, arith}
+use Rattle.std.proofs.lemmas.Bool.{eq-eqb, ne_eqb, cond-true, cond-false, cases_eq, and_from, le-leb, lt-ltb}
 use Rattle.bits.specs.Lowest.{lowest, or_else}
 use Rattle.bits.proofs.Lows.{lowest-same}
 use Rattle.channels.specs.declared.ChannelSet.{ChannelSet}
@@ -14,7 +14,7 @@ use Rattle.packing.specs.Reading.{number_in, unpacked}
 use Rattle.tree.specs.Number.{number, entries, reaches, Read}
 use Rattle.tree.proofs.Climbs.{prefix-stands}
 use Rattle.ranges.specs.Readings.{places, on_circle, full-below}
-use Rattle.ranges.specs.Ranges.{gathered, member, stands_for}
+use Rattle.ranges.specs.Ranges.{gathered, member}
 
 -- channel 0, or nothing
 pub zero-not : (s : ChannelSet) (held : Bool) → s ≡ no_channels → held ≡ false → (c : ℕ) → holds s c ≡ cond (eqb c 0) held false

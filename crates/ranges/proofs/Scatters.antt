@@ -1,19 +1,19 @@
 -- The distances of a set from its base, and their tree.
-use Rattle.std.proofs.Common.{◌≡◌, ℕ, zero, suc, ◌+◌, ◌-◌, ◌*◌, ◌%◌, ◌^◌, ◌<◌, ◌≤◌, Bool, true, false, cond, not, ◌&&◌, T, eqb, List, length, get_or, sym, refl, ap, ◌∙◌, subst, ap₂, ⊎_elim, add-one, one-add, arith}
-use Rattle.std.proofs.lemmas.Bool.{eq-eqb, ne_eqb, eqb-true, cond-true, cond-false, cases_eq, cases_lt, and_parts, and_left, both_ways}
+use Rattle.std.proofs.Common.{◌≡◌, ℕ, zero, suc, ◌+◌, ◌-◌, ◌<◌, ◌≤◌, Bool, true, false, cond, not, ◌&&◌, T, eqb, List, length, get_or, sym, refl, ap, ◌∙◌, subst, ap₂, arith}
+use Rattle.std.proofs.lemmas.Bool.{ne_eqb, both_ways}
 use Rattle.bits.specs.Bits.{rising}
 use Rattle.bits.specs.Bits as bits
 use Rattle.bits.proofs.Digits as digits
 use Rattle.bits.proofs.Rises.{rising_in, rising-up, rising-has}
 use Rattle.channels.specs.declared.ChannelSet.{ChannelSet}
-use Rattle.channels.specs.Sets.{holds, set_of, put, size_of, members_of}
-use Rattle.channels.proofs.Views.{holds_of, holds-past, holds-put, set_is}
+use Rattle.channels.specs.Sets.{holds, put, size_of, members_of}
+use Rattle.channels.proofs.Views.{holds_of, holds-put, set_is}
 use Rattle.origins.specs.Origins.{seen_from}
 use Rattle.origins.proofs.Seen.{holds-seen}
 use Rattle.origins.proofs.Reach.{member_below}
 use Rattle.packing.specs.declared.Range.{Range}
 use Rattle.packing.specs.Ranges.{width_of}
-use Rattle.spread.specs.Members.{Listed, Fit, Wrote, Outcome, among}
+use Rattle.spread.specs.Members.{Listed, Fit, Outcome, among}
 use Rattle.spread.proofs.Counts.{among-has, among-at}
 use Rattle.tree.specs.Written.{full, tally, written}
 use Rattle.tree.specs.Written as tree

@@ -1,18 +1,17 @@
 -- The range formats read back what they write, and write whatever they can read.
-use Rattle.std.specs.Prelude.{◌≡◌, ℕ, zero, suc, ◌+◌, ◌-◌, ◌*◌, ◌/◌, ◌%◌, ◌^◌, ◌<◌, ◌≤◌, Bool, true, false, cond, not, ◌&&◌, T, ◌⊎◌, List, [], ◌∷◌, length, is_some, Some, None, Ok, Err, Option, Result, ◌==◌, ◌≢◌, nat_eq, nat_le, slice_index, refl}
-use Rattle.std.proofs.Common.{sym, ◌∙◌, ap, ap₂, subst, inl, inr, ⊎_elim, arith}
+use Rattle.std.specs.Prelude.{◌≡◌, ℕ, zero, suc, ◌+◌, ◌-◌, ◌*◌, ◌/◌, ◌%◌, ◌^◌, ◌<◌, ◌≤◌, Bool, true, false, cond, not, ◌&&◌, T, List, ◌∷◌, length, Some, None, Ok, Err, Option, Result, ◌==◌, ◌≢◌, nat_eq, nat_le, slice_index, refl}
+use Rattle.std.proofs.Common.{sym, ◌∙◌, ap, ap₂, subst, ⊎_elim, arith}
 use Rattle.std.proofs.Math.Path.{fun_ext}
-use Rattle.std.specs.Int.Bits.{bit_and}
-use Rattle.std.proofs.ByRecursion.{All-from_get_or, All-get_or}
-use Rattle.std.proofs.lemmas.Bool.{and_parts, and_from, and_left, and_right, and_cases, leb-true, leb-false, le-leb, lt-leb, lt-ltb, le-ltb, ltb-true, eqb-true, eqb-false, eq-eqb, ne_eqb, cases_lt, cases_eq, cases_Bool, both_ways, cond-true, cond-false}
+use Rattle.std.proofs.ByRecursion.{All-from_get_or}
+use Rattle.std.proofs.lemmas.Bool.{and_parts, and_cases, leb-true, le-leb, eq-eqb, ne_eqb, cases_lt, cases_eq, both_ways, cond-true, cond-false}
 use Rattle.bits.specs.Bits.{bit}
 use Rattle.bits.specs.Lowest.{lowest}
 use Rattle.bits.proofs.Agree.{agree}
-use Rattle.bits.proofs.Lows.{lowest-none, lowest-some, lowest_is_none}
+use Rattle.bits.proofs.Lows.{lowest-none}
 use Rattle.bits.proofs.Digits.{bit_mod}
 use Rattle.channels.specs.declared.ChannelSet.{ChannelSet}
 use Rattle.channels.specs.Sets.{holds, set_of}
-use Rattle.channels.proofs.Views.{holds_of, holds-past, same_set}
+use Rattle.channels.proofs.Views.{holds_of, same_set}
 use Rattle.faults.specs.declared.FormatFault.{FormatFault}
 use Rattle.piles.specs.Flagged.{plain}
 use Rattle.piles.specs.Laws.{Octets, Lawful}
@@ -23,25 +22,23 @@ use Rattle.packing.specs.declared.Range.{Range}
 use Rattle.packing.specs.declared.Range.TheVariants.{R1024, R512, R256, R128}
 use Rattle.packing.specs.Ranges.{width_of, start_of, least_of, longest, HasLength}
 use Rattle.packing.specs.Fields.{bit_at, field, width, level}
-use Rattle.packing.specs.Fields as fields
 use Rattle.packing.specs.Slots.{slots_of}
-use Rattle.packing.specs.Reading.{number_in, slots_in, unpacked}
-use Rattle.packing.specs.Writing.{Packable, Holds, packed, head_of, mark_of, tail_of}
-use Rattle.packing.specs.Trips.{Headed, ReadBack, SameNumbers}
+use Rattle.packing.specs.Reading.{number_in, unpacked}
+use Rattle.packing.specs.Writing.{Holds, head_of, mark_of, tail_of}
+use Rattle.packing.specs.Trips.{Headed, ReadBack}
 use Rattle.packing.proofs.Counts.{slots-few}
 use Rattle.packing.proofs.Fields.{at_split, field-same, field_below, first_octet_lem}
 use Rattle.packing.proofs.Trips.{trip, reads, behind, heads}
 use Rattle.packing.proofs.Widths.{level_is}
 use Rattle.tree.specs.Number.{number}
-use Rattle.tree.specs.Written.{full, tally, written}
+use Rattle.tree.specs.Written.{full, written}
 use Rattle.tree.specs.Laws.{Trip}
 use Rattle.tree.proofs.Laws.{tree-stands, few-stands}
 use Rattle.tree.proofs.Climbs.{prefix-stands}
-use Rattle.tree.proofs.Trip.{full_pow}
 use Rattle.origins.specs.Origins.{ahead, origin_of}
 use Rattle.origins.proofs.Reach.{member_below, Within, origin-some, origin-none}
 use Rattle.ranges.specs.Ranges.{claim_of, fits_of, base_in, base_held, stands_for, seen, member, in_range, range_read, base_of, tail_in, others, range_octets, written_from, range_codec}
-use Rattle.ranges.specs.Readings.{stands-some, stands_at, stands-none, few, places, on_circle, full-below}
+use Rattle.ranges.specs.Readings.{stands-some, stands_at, stands-none, few, on_circle, full-below}
 
 t_of : (b : Bool) → b ≡ true → T b
 t_of true e = tt

@@ -1,5 +1,5 @@
 -- The four range formats. What is read stands for members by their distance from a base: the origin, or channel 0 in range 1024.
-use Rattle.std.specs.Prelude.{ℕ, suc, ◌+◌, ◌-◌, ◌*◌, ◌%◌, ◌^◌, Bool, true, false, cond, not, ◌&&◌, List, length, is_some, Some, None, Ok, Err, Option, Result, ◌==◌, bit_and, nat_eq, nat_le, slice_index}
+use Rattle.std.specs.Prelude.{ℕ, suc, ◌+◌, ◌%◌, Bool, true, cond, not, ◌&&◌, List, length, is_some, Some, None, Ok, Err, Option, Result, ◌==◌, bit_and, nat_eq, nat_le, slice_index}
 use Rattle.bits.specs.Lowest.{lowest}
 use Rattle.channels.specs.declared.ChannelSet.{ChannelSet}
 use Rattle.channels.specs.Sets.{holds, set_of}

@@ -1,17 +1,16 @@
 -- What the octets of a range say of the set that they are read as.
-use Rattle.std.specs.Prelude.{◌≡◌, ℕ, zero, suc, ◌+◌, ◌-◌, ◌*◌, ◌/◌, ◌%◌, ◌^◌, ◌<◌, ◌≤◌, Bool, true, false, cond, not, ◌&&◌, T, ◌⊎◌, List, [], length, replicate, is_some, Some, None, Ok, Err, Option, Result, ◌==◌, ◌≢◌, nat_eq}
+use Rattle.std.specs.Prelude.{◌≡◌, ℕ, suc, ◌-◌, ◌^◌, ◌<◌, ◌≤◌, true, false, List, length, replicate, is_some, Some, None, Ok, Option, ◌==◌, ◌≢◌, nat_eq}
 use Rattle.std.proofs.Math.Path.{refl}
-use Rattle.std.proofs.Common.{sym, ◌∙◌, ap, ap₂, subst, inl, inr, ⊎_elim, pow_mono}
+use Rattle.std.proofs.Common.{sym, ◌∙◌, ap, subst, ⊎_elim, pow_mono}
 use native.Mathlib.Omega.{arith}
 use Rattle.std.proofs.lemmas.List.{length-replicate}
-use Rattle.std.proofs.lemmas.Bool.{cases_lt, cases_eq, eq-eqb, ne_eqb, eqb-true, both_ways}
+use Rattle.std.proofs.lemmas.Bool.{cases_eq, eq-eqb, ne_eqb, eqb-true, both_ways}
 use Rattle.bits.specs.Lowest.{lowest}
 use Rattle.bits.proofs.Lows.{lowest-none, lowest-some, lowest_is_none}
 use Rattle.packing.specs.declared.Range.{Range}
 use Rattle.packing.specs.declared.Range.TheVariants.{R1024, R512, R256, R128}
-use Rattle.packing.specs.Ranges.{width_of, start_of}
+use Rattle.packing.specs.Ranges.{width_of}
 use Rattle.packing.specs.Fields.{width}
-use Rattle.packing.specs.Slots.{slots_of}
 use Rattle.packing.specs.Reading.{number_in, slots_in, first_null, is_null, count_to, unpacked, leading, filled, Read, Unpacked}
 use Rattle.packing.proofs.Counts.{slots-few, slots_small}
 use Rattle.packing.proofs.Readings.{leading_ok, filled_means, number_is}

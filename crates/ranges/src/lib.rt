@@ -1,4 +1,6 @@
 // The range formats of GSM 04.08: a list as a tree of numbers, each the distance of a channel from a base, told by the way to the root.
+#![tactic(auto)]
+
 ghost use Rattle.std.specs.Prelude.{◌≡◌, ℕ, ◌<◌, [], ◌∷◌};
 ghost use Rattle.bits.specs.Bits.{bit_within};
 ghost use Rattle.claims.specs.Views.{claims};

@@ -1,6 +1,5 @@
 -- The worked octets, by computation from the definitions.
-use Rattle.std.proofs.Common.{◌≡◌, ℕ, zero, suc, ◌<◌, ◌≤◌, List, [], ◌∷◌, length, Ok, Err, sym, refl, ap, ◌∙◌, arith}
-use Rattle.std.specs.List.{AllByRecursion as All}
+use Rattle.std.proofs.Common.{◌≡◌, ℕ, zero, suc, ◌<◌, ◌≤◌, List, [], ◌∷◌, length, Ok, Err, refl, ap, ◌∙◌, arith}
 use Rattle.faults.specs.declared.PileFault.TheVariants.{Unwritten}
 use Rattle.bits.specs.Lowest.{lowest}
 use Rattle.bits.specs.Bits.{bit, bit_in, words_of, number_of}
@@ -11,7 +10,7 @@ use Rattle.formats.specs.VariableLaws.{variable_faithful}
 use Rattle.formats.specs.BitMap0.{bit_map0}
 use Rattle.formats.specs.Format.{format_of}
 use Rattle.formats.specs.Variable.{variable}
-use Rattle.origins.specs.Origins.{origin_of, can_origin, reaches}
+use Rattle.origins.specs.Origins.{can_origin, reaches}
 use Rattle.packing.specs.Fields.{bit_at, field, level, width, before}
 use Rattle.packing.specs.Slots.{slots_of, greatest}
 use Rattle.packing.specs.Writing.{packed, octets_of, laid, stands}

@@ -4,7 +4,6 @@ use Rattle.channels.specs.declared.ChannelSet.{ChannelSet}
 use Rattle.channels.specs.Sets.{set_of}
 use Rattle.faults.specs.declared.PileFault.TheVariants.{Unwritten}
 use Rattle.packing.specs.declared.Range.TheVariants.{R1024}
-use Rattle.piles.specs.Laws.{Meaning}
 use Rattle.piles.specs.Filing.{Never}
 use Rattle.standard.specs.Standard.{standard, range}
 

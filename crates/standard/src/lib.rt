@@ -1,4 +1,6 @@
 // The standard pile: the six formats of GSM 04.08 beside one another, in the order in which they are tried.
+#![tactic(auto)]
+
 ghost use Rattle.standard.specs.Standard.{Apart};
 ghost use Rattle.standard.specs.Worked.{Worked};
 

@@ -11,5 +11,5 @@ returns-else-not-holds c = ap not (c.if-not-holds.false ∙ sym (some-beyond c.a
 
 pub returns-then-not-holds : goal.returns-then-not-holds
 returns-then-not-holds c =
-    sym (not-not c.is-none.result)
-    ∙ ap not (sym c.is-none.ensures ∙ ap is_some c.next-above.ensures ∙ above_map c.args.set.now (sym c.holds.ensures ∙ c.if-not-holds.true))
+    sym (not-not c.is_none.result)
+    ∙ ap not (sym c.is_none.ensures ∙ ap is_some c.next_above.ensures ∙ above_map c.args.set.now (sym c.holds.ensures ∙ c.if-not-holds.true))

@@ -11,7 +11,7 @@ pub loop-j-preserved : goal.loop-j-preserved
 loop-j-preserved c =
     let o = c.args.orig in
     let f = variable_octet (seen_from c.args.set.now o) o in
-    ap (set c.loop-j.out c.loop-j.j) (c.octet.ensures ∙ ap (λ (t : ChannelSet). variable_octet t o c.loop-j.j) c.turned-down-seen.ensures.value)
+    ap (set c.loop-j.out c.loop-j.j) (c.octet.ensures ∙ ap (λ (t : ChannelSet). variable_octet t o c.loop-j.j) c.turned_down-seen.ensures.value)
     ∙ front_more f c.loop-j.out c.args.out.now c.loop-j.j (omega arith) c.loop-j.invariant
 
 pub returns : goal.returns

@@ -1,5 +1,4 @@
-use Rattle.std.proofs.Common.{◌≡◌, ◌||◌, Some, None, sym, ◌∙◌, ap₂}
-use Rattle.claims.specs.Views.{shared}
+use Rattle.std.proofs.Common.{◌||◌, sym, ◌∙◌, ap₂}
 use Rattle.piles.specs.Combine.{claim_shared, claim_apart, shared-told}
 use Rattle.piles.proofs.beside.joint.Goals as goal
 

@@ -1,6 +1,5 @@
-use Rattle.std.proofs.Common.{◌≡◌, ℕ, ◌^◌, ◌<◌, ◌≤◌, length, Ok, sym, ap, ◌∙◌, subst, ap₂, arith}
+use Rattle.std.proofs.Common.{◌≡◌, ◌^◌, ◌<◌, ◌≤◌, length, Ok, sym, ap, ◌∙◌, subst, ap₂, arith}
 use Rattle.channels.specs.Sets.{set_of}
-use Rattle.packing.specs.Ranges.{width_of}
 use Rattle.packing.specs.Reading.{unpacked}
 use Rattle.packing.proofs.Counts.{slots_small, width_narrow}
 use Rattle.tree.specs.Number.{number, entries}
@@ -10,14 +9,14 @@ use Rattle.ranges.specs.Readings.{few, places}
 use Rattle.ranges.specs.RangeLaws.{base-below}
 use Rattle.ranges.proofs.reading.decode.Goals as goal
 
-pub stand-for-requires : goal.stand-for-requires
-stand-for-requires c =
+pub stand_for-requires : goal.stand_for-requires
+stand_for-requires c =
     let r = c.args.range in
     let os = c.args.contents.now in
-    let n = c.in-ok-n.n in
-    let e = c.in-ok-n.ensures in
+    let n = c.in_ok-n.n in
+    let e = c.in_ok-n.ensures in
     let ok : unpacked r os ≡ Ok n = sym e.value in
-    let w = c.top-width.ensures in
+    let w = c.top_width.ensures in
     record {
       low = omega (arith, c.base.ensures, base-below r os);
       narrow = omega (arith, width_narrow r);
@@ -29,9 +28,9 @@ pub returns : goal.returns
 returns c =
     let r = c.args.range in
     let os = c.args.contents.now in
-    let n = c.in-ok-n.n in
-    let e = c.in-ok-n.ensures in
+    let n = c.in_ok-n.n in
+    let e = c.in_ok-n.ensures in
     let ok : unpacked r os ≡ Ok n = sym e.value in
     let t = entries c.unpack.new.numbers in
-    ap Ok (c.stand-for.ensures ∙ ap₂ (λ b h. set_of (member b h c.top-width.result t n)) c.base.ensures c.base-held.ensures ∙ ap (λ k. set_of (member (base_in r os) (base_held r os) k t n)) c.top-width.ensures ∙ table-set r os c.unpack.new.numbers n ok e.meaning.stands (base_in r os) (base_held r os))
+    ap Ok (c.stand_for.ensures ∙ ap₂ (λ b h. set_of (member b h c.top_width.result t n)) c.base.ensures c.base_held.ensures ∙ ap (λ k. set_of (member (base_in r os) (base_held r os) k t n)) c.top_width.ensures ∙ table-set r os c.unpack.new.numbers n ok e.meaning.stands (base_in r os) (base_held r os))
     ∙ ap (range_read r os) (sym ok)

@@ -6,7 +6,7 @@ use Rattle.ranges.proofs.Gathers.{gather_none, gather_more, gather_all}
 use Rattle.ranges.proofs.reading.gather.Goals as goal
 
 pub loop-d-init : goal.loop-d-init
-loop-d-init c k l = c.zero-if-set.ensures k ∙ gather_none c.args.distances.now c.args.held k
+loop-d-init c k l = c.zero_if-set.ensures k ∙ gather_none c.args.distances.now c.args.held k
 
 pub loop-d-preserved : goal.loop-d-preserved
 loop-d-preserved c k l =
@@ -18,4 +18,4 @@ loop-d-preserved c k l =
 
 pub returns : goal.returns
 returns c =
-    gather_all c.args.distances.now c.args.held c.args.base c.loop-d.d-index c.loop-d.set c.turned-up.result c.requires.low (omega arith) c.loop-d.invariant c.turned-up.ensures.value
+    gather_all c.args.distances.now c.args.held c.args.base c.loop-d.d-index c.loop-d.set c.turned_up.result c.requires.low (omega arith) c.loop-d.invariant c.turned_up.ensures.value

@@ -1,4 +1,4 @@
-use Rattle.std.proofs.Common.{◌≡◌, sym, ◌∙◌, arith, rules}
+use Rattle.std.proofs.Common.{rules}
 use Rattle.ranges.proofs.Scatters.{planted}
 use Rattle.ranges.proofs.writing.plant.Goals as goal
 
