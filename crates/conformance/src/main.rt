@@ -1,5 +1,7 @@
 // Works out calls of the library, a line each, and prints each call with its answer. A line is `CALL -> ANSWER` or `CALL`
 // alone, so where all answers agree the output is the input. Empty lines and lines that begin with # are passed over.
+#![tactic(auto)]
+
 mod answers;
 mod asks;
 mod calls;

@@ -1,7 +1,10 @@
 // The depot: what the planning office runs.
+#![tactic(auto)]
+
 use formats::bitmap0::BitMap0;
 use plans::Tally;
 use plans::reporting::answer;
+use std::process::ExitCode;
 use std::{env, fs, io};
 
 const USAGE: &'static str =
@@ -16,10 +19,6 @@ enum Command {
     Compose(String),
     Wrong,
 }
-
-// The program ends with status 1; what there was to say is said.
-#[derive(Drop)]
-struct Failed;
 
 // What the arguments ask for.
 fn asked(rt: &HostRuntime) -> io::Result<Command> {
@@ -85,13 +84,14 @@ fn run(rt: &HostRuntime) -> io::Result<bool> {
     }
 }
 
-fn main(rt: HostRuntime) -> Result<(), Failed> {
+// Where it did not go well, what there was to say is said, and the status is 1.
+fn main(rt: HostRuntime) -> ExitCode {
     match run(&rt) {
-        Ok(true) => Ok(()),
-        Ok(false) => Err(Failed),
+        Ok(true) => ExitCode::SUCCESS,
+        Ok(false) => ExitCode::FAILURE,
         Err(error) => {
             let _ = eprintln!(rt; "depot: {error}");
-            Err(Failed)
+            ExitCode::FAILURE
         }
     }
 }

@@ -139,8 +139,8 @@ fn octets_are_read_with_and_without_blanks(rt: HostRuntime) -> Result<(), Fail> 
     let heap = rt.alloc();
     let close = octets(heap, b"8E0520")?;
     let apart = octets(heap, b" 8e 05\t20 ")?;
-    assert_eq!(rt; close.as_slice(), &[0x8E, 0x05, 0x20]);
-    assert_eq!(rt; apart.as_slice(), &[0x8E, 0x05, 0x20]);
+    assert_eq!(rt; close.as_slice(), [0x8E, 0x05, 0x20].as_slice());
+    assert_eq!(rt; apart.as_slice(), [0x8E, 0x05, 0x20].as_slice());
     assert!(rt; hex::read(heap, b"8E052").is_err());
     assert!(rt; hex::read(heap, b"8 E0520").is_err());
     Ok(())

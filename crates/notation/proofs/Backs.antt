@@ -1,17 +1,15 @@
 -- Numbers, ranges, codes and cells are read as they were written.
-use Rattle.std.proofs.Common.{◌≡◌, ℕ, suc, ◌+◌, ◌-◌, ◌*◌, ◌/◌, ◌%◌, ◌^◌, ◌<◌, ◌≤◌, min, Bool, true, false, cond, ◌&&◌, eqb, ltb, List, [], ◌∷◌, ◌++◌, length, get_or, take, drop, Ok, Err, decimal, Result, sym, refl, ap, ◌∙◌, subst, ⊎_elim, append-nil, arith}
+use Rattle.std.proofs.Common.{◌≡◌, ℕ, ◌+◌, ◌*◌, ◌/◌, ◌%◌, ◌<◌, ◌≤◌, true, false, List, [], ◌∷◌, ◌++◌, length, get_or, drop, Ok, decimal, sym, refl, ap, ◌∙◌, ⊎_elim, append-nil, arith}
 use Rattle.std.specs.Char.{is_ascii_digit}
-use Rattle.std.specs.List.{AllByRecursion as All}
+use Rattle.std.specs.List.{AllByRecursion}
 use Rattle.std.proofs.lemmas.Fmt.{decimal_by_steps}
 use Rattle.std.proofs.ByRecursion.{All-push}
 use Rattle.std.proofs.lemmas.List.{drop_at, drop-drop, get_or_at, length-append, length_push}
-use Rattle.std.proofs.lemmas.Bool.{cond-true, cond-false, eq-eqb, ne_eqb, lt-ltb, le-ltb, cases_eq}
+use Rattle.std.proofs.lemmas.Bool.{cond-true, cond-false, eq-eqb, ne_eqb, le-ltb, cases_eq}
 use Rattle.std.proofs.lemmas.Bool.Decides.{nat_tests}
-use Rattle.notation.specs.declared.WordFault.{WordFault}
-use Rattle.notation.specs.Numbers.{fault, and_then, capped, digits, amount, span, number_of, high_of, span_of}
-use Rattle.notation.specs.Codes.{hex_of, digit_in, ended, live, deleted, cell_at, four_at, code_of, cell_of}
+use Rattle.notation.specs.Numbers.{and_then, capped, digits, amount, span, number_of, high_of, span_of}
+use Rattle.notation.specs.Codes.{hex_of, digit_in, ended, live, cell_at, four_at}
 use Rattle.notation.specs.Texts.{hex_char, code_text, cell_text}
-use Rattle.notation.specs.Lists.{span_text}
 use Rattle.notation.specs.Back.{NumberBack, RangeBack, CodeBack, CellBack}
 use Rattle.notation.proofs.OctetsBack.{hex-back}
 
@@ -27,21 +25,21 @@ amount-none : (n : ℕ) (rest : List ℕ) → is_ascii_digit (get_or rest 0 0) �
 amount-none n [] e = refl
 amount-none n (c ∷ cs) e = cond-false _ _ _ e
 
-digits-front : (ds rest : List ℕ) → All Figure ds → is_ascii_digit (get_or rest 0 0) ≡ false → digits (ds ++ rest) ≡ length ds
+digits-front : (ds rest : List ℕ) → AllByRecursion Figure ds → is_ascii_digit (get_or rest 0 0) ≡ false → digits (ds ++ rest) ≡ length ds
 digits-front [] rest h e = digits-none rest e
 digits-front (c ∷ cs) rest h e = cond-true _ _ _ h.0 ∙ omega (arith, digits-front cs rest h.1 e)
 
-amount-front : (n : ℕ) (ds rest : List ℕ) → All Figure ds → is_ascii_digit (get_or rest 0 0) ≡ false → amount n (ds ++ rest) ≡ amount n ds
+amount-front : (n : ℕ) (ds rest : List ℕ) → AllByRecursion Figure ds → is_ascii_digit (get_or rest 0 0) ≡ false → amount n (ds ++ rest) ≡ amount n ds
 amount-front n [] rest h e = amount-none n rest e
 amount-front n (c ∷ cs) rest h e = cond-true _ _ _ h.0 ∙ amount-front (capped n c) cs rest h.1 e ∙ sym (cond-true _ _ _ h.0)
 
-amount_push : (n : ℕ) (ds : List ℕ) (c : ℕ) → All Figure ds → Figure c → amount n (ds ++ c ∷ []) ≡ capped (amount n ds) c
+amount_push : (n : ℕ) (ds : List ℕ) (c : ℕ) → AllByRecursion Figure ds → Figure c → amount n (ds ++ c ∷ []) ≡ capped (amount n ds) c
 amount_push n [] c h e = cond-true _ _ _ e
 amount_push n (d ∷ ds) c h e = cond-true _ _ _ h.0 ∙ amount_push (capped n d) ds c h.1 e ∙ ap (λ m. capped m c) (sym (cond-true _ _ _ h.0))
 
 -- what a number's text is
 pub record Figures (n : ℕ) (ds : List ℕ) : Type 0 where
-  pub all : All Figure ds
+  pub all : AllByRecursion Figure ds
   pub some : 0 < length ds
   pub value : n < 65536 → amount 0 ds ≡ n
 

@@ -1,13 +1,12 @@
 -- The ranges of a set have its channels and no others.
-use Rattle.std.proofs.Common.{◌≡◌, ℕ, zero, suc, ◌+◌, ◌<◌, ◌≤◌, Bool, true, false, cond, ◌&&◌, ◌||◌, eqb, ltb, leb, List, [], ◌∷◌, ◌++◌, length, get_or, sym, refl, ap, ◌∙◌, subst, ⊎_elim, arith}
-use Rattle.std.specs.List.{AllByRecursion as All}
+use Rattle.std.proofs.Common.{◌≡◌, ℕ, zero, suc, ◌+◌, ◌<◌, ◌≤◌, Bool, true, false, ◌&&◌, ◌||◌, eqb, leb, List, [], ◌∷◌, ◌++◌, length, get_or, sym, refl, ap, ◌∙◌, subst, ⊎_elim, arith}
+use Rattle.std.specs.List.{AllByRecursion}
 use Rattle.std.proofs.ByRecursion.{All-append, All-from_get_or}
 use Rattle.std.proofs.lemmas.Bool.{cond-true, cond-false, cases_Bool, eqb-true, eq-eqb, or_cases, or_left, or_right, both_ways}
 use Rattle.std.proofs.lemmas.Bool.Decides.{nat_tests}
 use Rattle.channels.specs.declared.ChannelSet.{ChannelSet}
-use Rattle.channels.specs.Sets.{holds, size_of, members_of, MemberLaws}
+use Rattle.channels.specs.Sets.{holds, members_of, MemberLaws}
 use Rattle.notation.specs.declared.Span.{Span}
-use Rattle.notation.specs.Numbers.{span}
 use Rattle.notation.specs.Lists.{run_of, runs_from, spans_of, in_span, covers}
 
 -- whether a list has a number
@@ -96,25 +95,25 @@ module _ (laws : MemberLaws) (s : ChannelSet) where
 abbrev pub Ranges : Span → Type 0
 Ranges s = (s.low ≤ s.high) × (s.high ≤ 1023)
 
-run_ranges : (low high : ℕ) → low ≤ high → high ≤ 1023 → All Ranges (run_of low high)
+run_ranges : (low high : ℕ) → low ≤ high → high ≤ 1023 → AllByRecursion Ranges (run_of low high)
 run_ranges low high a b =
     ⊎_elim
-    (λ e. subst (All Ranges) (sym (cond-true _ _ _ e)) ((omega arith, omega arith), ((omega arith, omega arith), tt)))
-    (λ e. subst (All Ranges) (sym (cond-false _ _ _ e)) ((omega arith, omega arith), tt))
+    (λ e. subst (AllByRecursion Ranges) (sym (cond-true _ _ _ e)) ((omega arith, omega arith), ((omega arith, omega arith), tt)))
+    (λ e. subst (AllByRecursion Ranges) (sym (cond-false _ _ _ e)) ((omega arith, omega arith), tt))
     (cases_Bool (eqb high (low + 1)))
 
-runs_range : (low high : ℕ) (cs : List ℕ) → low ≤ high → high ≤ 1023 → All (λ c. c ≤ 1023) cs → All Ranges (runs_from low high cs)
+runs_range : (low high : ℕ) (cs : List ℕ) → low ≤ high → high ≤ 1023 → AllByRecursion (λ c. c ≤ 1023) cs → AllByRecursion Ranges (runs_from low high cs)
 runs_range low high [] a b h = run_ranges low high a b
 runs_range low high (c ∷ cs) a b h =
     ⊎_elim
-    (λ e. subst (All Ranges) (sym (cond-true _ _ _ e)) (runs_range low c cs (omega (arith, eqb-true c (high + 1) e)) h.0 h.1))
-    (λ e. subst (All Ranges) (sym (cond-false _ _ _ e)) (All-append Ranges (run_of low high) (runs_from c c cs) (run_ranges low high a b) (runs_range c c cs (omega arith) h.0 h.1)))
+    (λ e. subst (AllByRecursion Ranges) (sym (cond-true _ _ _ e)) (runs_range low c cs (omega (arith, eqb-true c (high + 1) e)) h.0 h.1))
+    (λ e. subst (AllByRecursion Ranges) (sym (cond-false _ _ _ e)) (All-append Ranges (run_of low high) (runs_from c c cs) (run_ranges low high a b) (runs_range c c cs (omega arith) h.0 h.1)))
     (cases_Bool (eqb c (high + 1)))
 
-spans-range : (cs : List ℕ) → All (λ c. c ≤ 1023) cs → All Ranges (spans_of cs)
+spans-range : (cs : List ℕ) → AllByRecursion (λ c. c ≤ 1023) cs → AllByRecursion Ranges (spans_of cs)
 spans-range [] h = tt
 spans-range (c ∷ cs) h = runs_range c c cs (omega arith) h.0 h.1
 
-pub members_range : MemberLaws → (s : ChannelSet) → All Ranges (spans_of (members_of s))
+pub members_range : MemberLaws → (s : ChannelSet) → AllByRecursion Ranges (spans_of (members_of s))
 members_range laws s =
     spans-range (members_of s) (All-from_get_or (λ c. c ≤ 1023) (members_of s) 0 (λ j h. omega (arith, (laws.held s j (omega (arith, laws.count s))).0)))

@@ -1,6 +1,6 @@
 -- What is written of octets is read as them.
-use Rattle.std.proofs.Common.{◌≡◌, ℕ, suc, ◌+◌, ◌-◌, ◌*◌, ◌/◌, ◌%◌, ◌<◌, ◌≤◌, Bool, true, false, cond, List, [], ◌∷◌, ◌++◌, length, get_or, drop, Some, None, Ok, Err, sym, refl, ap, ◌∙◌, subst, arith, length-drop}
-use Rattle.std.specs.List.{flat_map, AllByRecursion as All}
+use Rattle.std.proofs.Common.{◌≡◌, ℕ, ◌+◌, ◌*◌, ◌/◌, ◌%◌, ◌<◌, false, List, [], ◌∷◌, ◌++◌, length, Some, Ok, refl, ap, ◌∙◌, arith, length-drop}
+use Rattle.std.specs.List.{flat_map, AllByRecursion}
 use Rattle.std.proofs.lemmas.Bool.Decides.{nat_tests}
 use Rattle.notation.specs.Codes.{hex_of, digit_in}
 use Rattle.notation.specs.Numbers.{and_then}
@@ -26,17 +26,17 @@ one-back at o bs h =
     take_pair at (hex_char (o / 16)) (hex_char (o % 16) ∷ bs) (hex-solid (o / 16) (omega arith))
     ∙ ap (λ r. and_then r (λ o. before (o ∷ []) (octets_from (at + 2) bs))) (pair_back at o h)
 
-dense-back : (at : ℕ) (os : List ℕ) → All (λ o. o < 256) os → octets_from at (flat_map octet_text os) ≡ Ok os
+dense-back : (at : ℕ) (os : List ℕ) → AllByRecursion (λ o. o < 256) os → octets_from at (flat_map octet_text os) ≡ Ok os
 dense-back at [] h = refl
 dense-back at (o ∷ os) h = one-back at o (flat_map octet_text os) h.0 ∙ ap (before (o ∷ [])) (dense-back (at + 2) os h.1)
 
-blanked-back : (at : ℕ) (os : List ℕ) → All (λ o. o < 256) os → octets_from at (blanked octet_text os) ≡ Ok os
+blanked-back : (at : ℕ) (os : List ℕ) → AllByRecursion (λ o. o < 256) os → octets_from at (blanked octet_text os) ≡ Ok os
 blanked-back at [] h = refl
 blanked-back at (o ∷ os) h =
     skip_blank at 32 (octet_text o ++ blanked octet_text os) refl
     ∙ one-back (at + 1) o (blanked octet_text os) h.0 ∙ ap (before (o ∷ [])) (blanked-back (at + 1 + 2) os h.1)
 
-spaced-back : (os : List ℕ) → All (λ o. o < 256) os → octets_of (hex_text os) ≡ Ok os
+spaced-back : (os : List ℕ) → AllByRecursion (λ o. o < 256) os → octets_of (hex_text os) ≡ Ok os
 spaced-back [] h = refl
 spaced-back (o ∷ os) h = one-back 0 o (blanked octet_text os) h.0 ∙ ap (before (o ∷ [])) (blanked-back 2 os h.1)
 

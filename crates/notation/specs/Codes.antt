@@ -1,5 +1,5 @@
 -- Hexadecimal codes and cells as words.
-use Rattle.std.specs.Prelude.{◌≡◌, ℕ, zero, suc, ◌+◌, ◌-◌, ◌*◌, ◌/◌, ◌%◌, Bool, true, false, cond, ◌&&◌, ◌||◌, List, [], ◌∷◌, ◌++◌, length, Some, None, Ok, Err, Option, Result, ◌==◌, slice_index}
+use Rattle.std.specs.Prelude.{ℕ, ◌+◌, ◌-◌, ◌*◌, Bool, cond, ◌||◌, List, length, Some, None, Ok, Err, Option, Result, ◌==◌, slice_index}
 use Rattle.std.specs.Int.{is_in_range}
 use Rattle.notation.specs.declared.Expected.TheVariants.{HexDigit, Colon, End, LiveArea}
 use Rattle.notation.specs.declared.WordFault.{WordFault}

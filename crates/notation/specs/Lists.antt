@@ -1,5 +1,5 @@
 -- Channels as text.
-use Rattle.std.specs.Prelude.{ℕ, ◌+◌, Bool, true, false, cond, ◌&&◌, ◌||◌, List, [], ◌∷◌, ◌++◌, codes, decimal, ◌==◌, nat_le}
+use Rattle.std.specs.Prelude.{ℕ, ◌+◌, Bool, false, cond, ◌&&◌, ◌||◌, List, [], ◌∷◌, ◌++◌, codes, decimal, ◌==◌, nat_le}
 use Rattle.notation.specs.declared.Span.{Span}
 use Rattle.notation.specs.Numbers.{span}
 use Rattle.notation.specs.Texts.{spaced}

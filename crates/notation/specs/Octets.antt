@@ -1,6 +1,6 @@
 -- Octets as text: read, and read back.
-use Rattle.std.specs.Prelude.{◌≡◌, ℕ, ◌+◌, ◌-◌, ◌*◌, ◌<◌, Bool, cond, ◌||◌, List, [], ◌∷◌, ◌++◌, length, Ok, Err, Result, ◌==◌}
-use Rattle.std.specs.List.{flat_map, AllByRecursion as All}
+use Rattle.std.specs.Prelude.{◌≡◌, ℕ, ◌+◌, ◌-◌, ◌*◌, ◌<◌, Bool, cond, ◌||◌, List, [], ◌∷◌, ◌++◌, length, Ok, Result, ◌==◌}
+use Rattle.std.specs.List.{flat_map, AllByRecursion}
 use Rattle.notation.specs.declared.WordFault.{WordFault}
 use Rattle.notation.specs.Codes.{hex_of, digit_in}
 use Rattle.notation.specs.Numbers.{and_then}
@@ -29,5 +29,5 @@ octets_of bs = octets_from 0 bs
 -- what is written is read as the octets that it was written for, with blanks and without
 pub record OctetLaws : Type 0 where
   pub long : (os : List ℕ) → length (hex_text os) ≡ 3 * length os - 1
-  pub back : (os : List ℕ) → All (λ o. o < 256) os → octets_of (hex_text os) ≡ Ok os
-  pub dense : (os : List ℕ) → All (λ o. o < 256) os → octets_of (flat_map octet_text os) ≡ Ok os
+  pub back : (os : List ℕ) → AllByRecursion (λ o. o < 256) os → octets_of (hex_text os) ≡ Ok os
+  pub dense : (os : List ℕ) → AllByRecursion (λ o. o < 256) os → octets_of (flat_map octet_text os) ≡ Ok os

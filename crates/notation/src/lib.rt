@@ -1,4 +1,6 @@
 // How values are written as text and read from it: numbers, cells, channels, octets, refusals.
+#![tactic(auto)]
+
 pub mod hex;
 pub mod lists;
 pub mod told;

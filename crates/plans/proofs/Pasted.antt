@@ -1,23 +1,22 @@
 -- A line that is made of a cell and ranges is read as them.
-use Rattle.std.proofs.Common.{◌≡◌, ℕ, suc, ◌+◌, ◌-◌, ◌/◌, ◌%◌, ◌<◌, ◌≤◌, Bool, true, false, cond, not, ◌&&◌, ◌||◌, eqb, ltb, leb, List, [], ◌∷◌, ◌++◌, length, get_or, take, drop, Some, None, Ok, Err, decimal, sym, refl, ap, ◌∙◌, subst, ⊎_elim, append_assoc, append-nil, arith}
+use Rattle.std.proofs.Common.{◌≡◌, ℕ, ◌+◌, ◌-◌, ◌/◌, ◌%◌, ◌<◌, Bool, true, false, cond, not, ◌||◌, eqb, leb, List, [], ◌∷◌, ◌++◌, length, take, drop, Some, None, Ok, Err, decimal, sym, refl, ap, ◌∙◌, append_assoc, arith}
 use Rattle.std.specs.Char.{is_ascii_digit}
-use Rattle.std.specs.List.{prefix_len, AllByRecursion as All}
+use Rattle.std.specs.List.{prefix_len, AllByRecursion}
 use Rattle.std.proofs.ByRecursion.{All-append, All-weaker}
 use Rattle.std.proofs.lemmas.List.{drop_at, take_at, length-append}
-use Rattle.std.proofs.lemmas.Bool.{cond-true, cond-false, cond_both, ne_eqb, eq-eqb, le-leb, eqb-true, cases_Bool, and_parts, not-true}
+use Rattle.std.proofs.lemmas.Bool.{cond-true, cond-false, cond_both, ne_eqb, eq-eqb, le-leb, and_parts, not-true}
 use Rattle.std.proofs.lemmas.Bool.Decides.{nat_tests}
 use Rattle.channels.specs.declared.ChannelSet.{ChannelSet}
-use Rattle.channels.specs.Sets.{holds, set_of, no_channels, size_of, members_of}
+use Rattle.channels.specs.Sets.{holds, no_channels, size_of, members_of}
 use Rattle.channels.proofs.Views.{holds_of, holds-none, same_set, member_laws}
 use Rattle.notation.specs.declared.Span.{Span}
 use Rattle.notation.specs.Codes.{deleted, cell_at, cell_of}
 use Rattle.notation.specs.Lists.{span_text, run_of, runs_from, spans_of, list_text, in_span, covers}
 use Rattle.notation.specs.Numbers.{and_then, span_of}
 use Rattle.notation.specs.Octets.{blank}
-use Rattle.notation.specs.Texts.{hex_char, code_text, cell_text, blanked, spaced}
+use Rattle.notation.specs.Texts.{hex_char, code_text, cell_text, blanked}
 use Rattle.notation.proofs.Backs.{range_back, cell_back, figures}
 use Rattle.notation.proofs.Covers.{Ranges, members_range, spans_exact}
-use Rattle.plans.specs.declared.Word.{Word}
 use Rattle.plans.specs.declared.Line.TheVariants.{Entry}
 use Rattle.plans.specs.Lines.{placed, cell_in, with_span, over_range, add_in, channels_in, entry, line_of}
 use Rattle.plans.specs.Pastes.{as_line, PasteLaws}
@@ -28,16 +27,16 @@ use Rattle.plans.proofs.Steps.{none-past, channels_end, channels-next, good_line
 abbrev Solid : ℕ → Type 0
 Solid c = solid c ≡ true
 
-leading-front : (p : ℕ → Bool) (ds rest : List ℕ) → All (λ c. p c ≡ true) ds → prefix_len p rest ≡ 0 → prefix_len p (ds ++ rest) ≡ length ds
+leading-front : (p : ℕ → Bool) (ds rest : List ℕ) → AllByRecursion (λ c. p c ≡ true) ds → prefix_len p rest ≡ 0 → prefix_len p (ds ++ rest) ≡ length ds
 leading-front p [] rest h e = e
 leading-front p (c ∷ cs) rest h e = cond-true _ _ _ h.0 ∙ omega (arith, leading-front p cs rest h.1 e)
 
-not-blank : (w rest : List ℕ) → All Solid w → 0 < length w → prefix_len blank (w ++ rest) ≡ 0
+not-blank : (w rest : List ℕ) → AllByRecursion Solid w → 0 < length w → prefix_len blank (w ++ rest) ≡ 0
 not-blank [] rest h some = absurd (omega arith)
 not-blank (c ∷ cs) rest h some = cond-false _ _ _ (not-true (blank c) (and_parts (not (eqb c 35)) (not (blank c)) h.0).1)
 
 -- a word behind a gap
-module _ (pre gap w rest : List ℕ) (blanks : All (λ c. blank c ≡ true) gap) (solids : All Solid w) (some : 0 < length w) (stop : prefix_len solid rest ≡ 0) where
+module _ (pre gap w rest : List ℕ) (blanks : AllByRecursion (λ c. blank c ≡ true) gap) (solids : AllByRecursion Solid w) (some : 0 < length w) (stop : prefix_len solid rest ≡ 0) where
   behind : drop (length pre + length gap) (pre ++ (gap ++ (w ++ rest))) ≡ w ++ rest
   behind = ap (drop (length pre + length gap)) (sym (append_assoc pre gap (w ++ rest))) ∙ drop_at (pre ++ gap) (w ++ rest) (length pre + length gap) (length-append pre gap)
 
@@ -65,12 +64,12 @@ module _ (pre gap w rest : List ℕ) (blanks : All (λ c. blank c ≡ true) gap)
 digit-solid : (c : ℕ) → is_ascii_digit c ≡ true → Solid c
 digit-solid c e = grind (arith, nat_tests)
 
-number-solid : (n : ℕ) → n < 65536 → All Solid (decimal n)
+number-solid : (n : ℕ) → n < 65536 → AllByRecursion Solid (decimal n)
 number-solid n h = All-weaker (λ c. is_ascii_digit c ≡ true) Solid digit-solid (decimal n) (figures n h).all
 
-span-solid : (s : Span) → Ranges s → All Solid (span_text s)
+span-solid : (s : Span) → Ranges s → AllByRecursion Solid (span_text s)
 span-solid s h =
-    cond_both (eqb s.low s.high) _ _ (All Solid)
+    cond_both (eqb s.low s.high) _ _ (AllByRecursion Solid)
     (λ _. number-solid s.low (omega (arith, h)))
     (λ _. All-append Solid (decimal s.low) (45 ∷ decimal s.high) (number-solid s.low (omega (arith, h))) (refl, number-solid s.high (omega (arith, h))))
 
@@ -117,7 +116,7 @@ module _ (pre : List ℕ) (x : Span) (xs : List Span) (h : Ranges x) (s : Channe
       ∙ ap (λ r. and_then (placed w r) (λ r. cond (leb r.high 1023) (Ok (with_span s r)) (Err (over_range w)))) (range_back x.low x.high h.0 (omega (arith, h.1)))
       ∙ cond-true _ _ _ (le-leb x.high 1023 h.1)
 
-ranges_read : (ss : List Span) → All Ranges ss → (pre : List ℕ) (s : ChannelSet) → channels_in (pre ++ blanked span_text ss) s (words_after (pre ++ blanked span_text ss) (length pre)) ≡ Ok (spread s ss)
+ranges_read : (ss : List Span) → AllByRecursion Ranges ss → (pre : List ℕ) (s : ChannelSet) → channels_in (pre ++ blanked span_text ss) s (words_after (pre ++ blanked span_text ss) (length pre)) ≡ Ok (spread s ss)
 unfolding spread
 ranges_read [] h pre s =
     let long = length-append pre [] in
@@ -135,7 +134,7 @@ ranges_read (x ∷ xs) h pre s =
 hex-solid : (d : ℕ) → d < 16 → Solid (hex_char d)
 hex-solid d h = grind (arith, nat_tests)
 
-code_solid : (n : ℕ) → n < 65536 → All Solid (code_text n)
+code_solid : (n : ℕ) → n < 65536 → AllByRecursion Solid (code_text n)
 code_solid n h = (hex-solid (n / 4096) (omega arith), (hex-solid (n / 256 % 16) (omega arith), (hex-solid (n / 16 % 16) (omega arith), (hex-solid (n % 16) (omega arith), tt))))
 
 -- a list that has channels has ranges

@@ -1,5 +1,5 @@
 -- The texts of reports.
-use Rattle.std.specs.Prelude.{◌≡◌, ℕ, ◌+◌, Bool, true, cond, List, [], ◌∷◌, ◌++◌, Ok, Err, string_bytes, codes, decimal, Result, ◌==◌}
+use Rattle.std.specs.Prelude.{◌≡◌, ℕ, ◌+◌, Bool, true, cond, List, [], ◌++◌, Ok, Err, string_bytes, codes, decimal, Result, ◌==◌}
 use Rattle.channels.specs.declared.ChannelSet.{ChannelSet}
 use Rattle.channels.specs.Sets.{size_of, members_of}
 use Rattle.faults.specs.declared.PileFault.{PileFault}

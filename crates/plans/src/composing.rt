@@ -15,7 +15,7 @@ const OCTETS: usize = 16;
 
 // Composes the octets of a list, without flags, and reads them back.
 pub fn compose_and_read<P: Pile>(pile: &P, set: &ChannelSet) -> Result<Trial, PileFault>
-    ensures { Tried (meaning pile.now) set.now result }
+    ensures { Tried (P.meaning pile.now) set.now result }
 {
     let Some(lengths) = Lengths::between(OCTETS, OCTETS) else {
         unreachable()

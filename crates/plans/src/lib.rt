@@ -1,4 +1,6 @@
 // Plans: the lines that name cells and their channels, and the report on each.
+#![tactic(auto)]
+
 pub mod composing;
 pub mod reading;
 pub mod reporting;

@@ -57,7 +57,7 @@ pub fn report<P: Pile>(
     number: usize,
     entry: &Entry,
 ) -> Result<Answer, AllocError>
-    ensures { IfOk result (Reported number entry.now ((meaning pile.now).writes entry.now.channels 16)) }
+    ensures { IfOk result (Reported number entry.now ((P.meaning pile.now).writes entry.now.channels 16)) }
 {
     let mut text = head(heap, number, entry)?;
     match compose_and_read(pile, &entry.channels) {
@@ -137,7 +137,7 @@ fn answer_to<P: Pile>(
     number: usize,
     said: Line,
 ) -> Result<Answer, AllocError>
-    ensures { IfOk result (Answered (meaning pile.now) number (Ok said)) }
+    ensures { IfOk result (Answered (P.meaning pile.now) number (Ok said)) }
 {
     match said {
         Line::Blank => Ok(Answer {
@@ -155,7 +155,7 @@ pub fn answer<P: Pile>(
     number: usize,
     line: &str,
 ) -> Result<Answer, AllocError>
-    ensures { IfOk result (Answered (meaning pile.now) number (line_of line.now)) }
+    ensures { IfOk result (Answered (P.meaning pile.now) number (line_of line.now)) }
 {
     let bytes = line.as_bytes();
     match parse(bytes) {

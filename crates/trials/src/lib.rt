@@ -1,4 +1,6 @@
 // Piles nested in one another, as an office uses them, proved from the laws of the parts alone; and worked cases as tests.
+#![tactic(auto)]
+
 ghost use Rattle.std.specs.Prelude.{◌≡◌};
 ghost use Rattle.piles.specs.Laws.{Filled, Put};
 ghost use Rattle.piles.specs.Combined.{beside_of, licence_of};

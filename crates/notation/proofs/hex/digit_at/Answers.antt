@@ -5,4 +5,4 @@ use Rattle.notation.proofs.hex.digit_at.Goals as goal
 
 pub returns-in-Some : goal.returns-in-Some
 returns-in-Some c =
-    record { value = search rules; small = search rules; within = hex-within c.args.word.now c.args.i c.in-Some.d (ap hex_of (sym c.byte-at.ensures) ∙ sym c.in-Some.ensures); place = tt }
+    record { value = search rules; small = search rules; within = hex-within c.args.word.now c.args.i c.in-Some.d (ap hex_of (sym c.byte_at.ensures) ∙ sym c.in-Some.ensures); place = tt }

@@ -6,8 +6,8 @@ use Rattle.notation.proofs.lists.join.Goals as goal
 
 pub loop-i-preserved : goal.loop-i-preserved
 loop-i-preserved c =
-    one_word span_text c.args.spans.now c.loop-i.i (span 0 0) _ _ _ _ c.loop-i-test.true c.loop-i.invariant c.in-ok-blank-before.ensures c.in-ok-push-str.ensures.bytes
-    (c.as-str.ensures.value ∙ c.in-ok-word.ensures.ok)
+    one_word span_text c.args.spans.now c.loop-i.i (span 0 0) _ _ _ _ c.loop-i-test.true c.loop-i.invariant c.in_ok-blank_before.ensures c.in_ok-push_str.ensures.bytes
+    (c.as_str.ensures.value ∙ c.in_ok-word.ensures.ok)
 
 pub returns : goal.returns
 returns c = all_words span_text c.args.spans.now c.loop-i.i _ c.loop-i-test.false c.loop-i.invariant

@@ -6,8 +6,8 @@ use Rattle.notation.proofs.Covers.{spans_exact}
 use Rattle.notation.proofs.Runs.{front-within}
 use Rattle.notation.proofs.lists.spans_of.Goals as goal
 
-pub slice-bounds-runs-end : goal.slice-bounds-runs-end
-slice-bounds-runs-end c =
+pub slice_bounds-runs-end : goal.slice_bounds-runs-end
+slice_bounds-runs-end c =
     let told = c.members-count.ensures in
     let few : c.members-count.result ≤ length c.members-count.new.out = front-within _ _ _ told.front (member_laws.count c.args.set.now ∙ sym told.count) in
     search rules

@@ -32,8 +32,8 @@ pub returns-in-7 : goal.returns-in-7
 unfolding sentence_of
 returns-in-7 c = sym (ap sentence_of c.in-7.is)
 
-pub returns-in-default : goal.returns-in-default
+pub returns-in_default : goal.returns-in_default
 unfolding sentence_of
-returns-in-default c =
+returns-in_default c =
     let n = c.args.number in
     ⊎_elim (λ h. let z : n ≡ 0 = omega arith in sym (ap sentence_of z)) (λ h. sym (get_or_past sentences n nameless h)) (cases_lt n 8)

@@ -5,11 +5,11 @@ use Rattle.plans.proofs.reading.begin.Goals as goal
 
 pub loop-k-preserved : goal.loop-k-preserved
 loop-k-preserved c =
-    (goes blank c.args.line.now c.loop-k.k c.loop-k-test.true (sym c.if-is-blank.ensures) ∙ c.loop-k.invariant.0, omega arith)
+    (goes blank c.args.line.now c.loop-k.k c.loop-k-test.true (sym c.if-is_blank.ensures) ∙ c.loop-k.invariant.0, omega arith)
 
-pub returns-else-is-blank : goal.returns-else-is-blank
-returns-else-is-blank c =
-    record { value = stops blank c.args.line.now c.loop-k.k c.loop-k-test.true (sym c.if-is-blank.ensures) ∙ c.loop-k.invariant.0; within = c.loop-k.invariant.1 }
+pub returns-else-is_blank : goal.returns-else-is_blank
+returns-else-is_blank c =
+    record { value = stops blank c.args.line.now c.loop-k.k c.loop-k-test.true (sym c.if-is_blank.ensures) ∙ c.loop-k.invariant.0; within = c.loop-k.invariant.1 }
 
 pub returns-after-loop-k : goal.returns-after-loop-k
 returns-after-loop-k c =

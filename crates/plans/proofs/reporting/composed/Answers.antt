@@ -8,5 +8,5 @@ unfolding composed_text channel_text
 returns c =
     IfOk-weaker c.format.result _ _
     (λ s e alike. e
-    ∙ (λ i. composed_of (c.in-ok-octets.ensures i) ((c.in-ok-back.ensures ∙ ap channel_text alike) i) ((c.likeness-same.ensures ∙ ap likeness_text (c.eq.ensures.1 alike)) i)))
+    ∙ (λ i. composed_of (c.in_ok-octets.ensures i) ((c.in_ok-back.ensures ∙ ap channel_text alike) i) ((c.likeness-same.ensures ∙ ap likeness_text (c.eq.ensures.decides.1 alike)) i)))
     c.format.ensures.ok
