@@ -5,9 +5,10 @@
     python3 tools/respell.py --list     only lists each old name with its new one
 
 Functions and lemmas are in snake case, facts (definitions that give a type) in upper camel case. A dash stays where it
-joins two names that both stand for something, as in bit-zero; any other word is added by an underscore. Where the new
-name is taken already (by another name of this repository, of the library, or of the code), the old words keep their
-dash or get the ending in SETTLED. Names of the code, strings, inputs and outputs are left as they are.
+joins two names that both stand for something, as in bit-zero; any other word is added by an underscore. A name whose new
+spelling another name of this repository or of the library has keeps its dash, or gets the ending in SETTLED. One that a
+function of the code has is turned all the same, and told: a clause cannot call code. Names of the code, strings, inputs
+and outputs are left as they are. Where the names are turned already, nothing is done.
 """
 
 import glob
@@ -157,9 +158,12 @@ def together(paths, turned):
 
 
 def main():
+    if not {"fromLowest", "canOrigin"} & set(own_names()):
+        print("the names are turned already")
+        return
     turned, said = renames()
     for old, new, why in said:
-        print(f"taken ({why}): {old} -> {new}")
+        print(f"{'also' if why == 'code' else 'kept, taken by'} {why}: {old} -> {new}")
     paths = specs_and_proofs() + sorted(glob.glob("crates/*/src/*.rt")) + sorted(glob.glob("crates/*/must-fail/*.edit"))
     if "--list" in sys.argv:
         for old in sorted(turned):
