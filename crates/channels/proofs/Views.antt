@@ -1,5 +1,9 @@
 -- The laws of the view of a set.
-use Rattle.std.proofs.Common.{◌≡◌, ℕ, ◌<◌, ◌≤◌, Bool, true, false, cond, eqb, List, length, Ok, Err, Result, sym, refl, ◌∙◌, ⊎_elim, arith}
+use Rattle.std.specs.Bool.{Decides}
+use Rattle.std.specs.Cmp.Lexicographic.{pointwise}
+use Rattle.std.proofs.lemmas.Bool.Decides.{Decides-eqb}
+use Rattle.std.proofs.lemmas.Slice.Eq.{slice_eq-Decides}
+use Rattle.std.proofs.Common.{◌≡◌, ℕ, ◌<◌, ◌≤◌, ◌==◌, Bool, true, false, cond, eqb, ap, List, length, Ok, Err, Result, sym, refl, ◌∙◌, ⊎_elim, arith}
 use mathlib.Core.HLevel.{is_prop→PathP}
 use native.Mathlib.Nat.{ℕ_set}
 use native.Mathlib.Bridge.{le_prop}
@@ -22,6 +26,12 @@ same-by-words a b e = λ i. record {
   whole = is_prop→PathP (λ j. length (e j) ≡ 16) (λ j. ℕ_set (length (e j)) 16) a.whole b.whole i;
   fits = is_prop→PathP (λ j. Fit (e j)) (λ j. fit_prop (e j)) a.fits b.fits i;
 }
+
+-- and a test of the words tells whether they are
+pub words_decide : (a b : ChannelSet) (r : Bool) → r ≡ pointwise ◌==◌ a.words b.words → Decides r (a ≡ b)
+words_decide a b r e =
+    let d = slice_eq-Decides Decides-eqb a.words b.words r e in
+    (λ t. same-by-words a b (d.0 t), λ q. d.1 (ap (λ (s : ChannelSet). s.words) q))
 
 pub holds-bits : (s : ChannelSet) (c : ℕ) → holds s c ≡ bit_in s.words c
 unfolding holds

@@ -1,5 +1,5 @@
 -- Sets by their members.
-use Rattle.std.specs.Prelude.{◌≡◌, ℕ, ◌+◌, ◌-◌, ◌%◌, ◌<◌, ◌≤◌, Bool, true, false, cond, not, ◌&&◌, ◌||◌, List, length, take, is_some, Ok, Err, Option, Result, ◌==◌, nat_le, nat_lt, slice_index}
+use Rattle.std.specs.Prelude.{◌≡◌, ℕ, ◌+◌, ◌-◌, ◌%◌, ◌<◌, ◌≤◌, Bool, true, false, cond, not, ◌&&◌, ◌||◌, List, length, take, is_some, Ok, Err, Option, Result, Decides, ◌==◌, nat_le, nat_lt, slice_index}
 use Rattle.bits.specs.Bits.{bit, bit_in, number_of, words_of, tally, rising}
 use Rattle.bits.specs.Lowest.{lowest}
 use Rattle.bits.proofs.Lists.{length-words, fit_words}
@@ -79,6 +79,10 @@ pub record MemberLaws : Type 0 where
   pub held : (s : ChannelSet) (j : ℕ) → j < size_of s → (slice_index (members_of s) j < 1024) × (holds s (slice_index (members_of s) j) ≡ true)
   pub rise : (s : ChannelSet) (i j : ℕ) → i < j → j < size_of s → slice_index (members_of s) i < slice_index (members_of s) j
   pub there : (s : ChannelSet) (c : ℕ) → holds s c ≡ true → (j : ℕ) × (j < size_of s) × (slice_index (members_of s) j ≡ c)
+
+-- a test of two sets that tells whether they are one value
+abbrev pub IsEquality : (ChannelSet → ChannelSet → Bool) → Type 0
+IsEquality eq = (a b : ChannelSet) → Decides (eq a b) (a ≡ b)
 
 -- the laws of the view
 pub record ViewLaws : Type 0 where

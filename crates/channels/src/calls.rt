@@ -1,6 +1,6 @@
 ghost use Rattle.std.specs.Prelude.{◌≡◌, ℕ, ◌+◌, ◌-◌, ◌*◌, ◌/◌, ◌%◌, ◌<◌, ◌≤◌, Bool, true, false, ◌&&◌, ◌||◌, length, take, drop, if◌then◌else◌, Decides, ◌==◌, nat_lt, slice_index};
 ghost use Rattle.bits.specs.Bits.{bit};
-ghost use Rattle.channels.specs.Sets.{holds, set_of, no_channels, all_channels, put, put_eight, eight_from, turned, size_of, next_above, first_outside, within, members_of, Listed, Changed, ViewLaws, MemberLaws};
+ghost use Rattle.channels.specs.Sets.{holds, set_of, no_channels, all_channels, put, put_eight, eight_from, turned, size_of, next_above, first_outside, within, members_of, Listed, Changed, IsEquality, ViewLaws, MemberLaws};
 ghost use Rattle.std.specs.Cmp.Rules.{comparing};
 ghost use Rattle.std.proofs.Common.{rules};
 ghost use Rattle.std.specs.Cmp.Lexicographic.{pointwise};
@@ -18,7 +18,7 @@ const WORDS: usize = 16;
 fn laws()
     ensures view { ViewLaws }
     ensures members { MemberLaws }
-    ensures equality { (a b : ChannelSet) → Decides (⟦<ChannelSet as PartialEq>⟧.eq a b) (a ≡ b) }
+    ensures equality { IsEquality ⟦<ChannelSet as PartialEq>⟧.eq }
 {}
 
 // A word moved up by r bits, with the top r bits of the word below it.
@@ -179,7 +179,7 @@ impl ChannelSet {
         ensures empty { result ≡ no_channels }
         ensures view { ViewLaws }
         ensures members { MemberLaws }
-        ensures equality { (a b : ChannelSet) → Decides (⟦<ChannelSet as PartialEq>⟧.eq a b) (a ≡ b) }
+        ensures equality { IsEquality ⟦<ChannelSet as PartialEq>⟧.eq }
     {
         laws();
         ChannelSet::filled(false)
