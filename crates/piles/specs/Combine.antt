@@ -6,9 +6,8 @@ use Rattle.std.proofs.lemmas.Bool.{lt-ltb, and_from, both_ways, or_left, or_righ
 use Rattle.std.proofs.ByRecursion.{All-get_or}
 use Rattle.channels.specs.declared.ChannelSet.{ChannelSet}
 use Rattle.channels.specs.Sets.{first_outside}
-use Rattle.bits.proofs.Lows.{lowest-none, lowest-same}
-use Rattle.claims.specs.declared.Claims.{Claims}
-use Rattle.claims.specs.Views.{claims, both, shared}
+use Rattle.bits.proofs.Lows.{lowest-none}
+use Rattle.claims.specs.Views.{both, shared}
 use Rattle.faults.specs.declared.FormatFault.TheVariants.{Length}
 use Rattle.faults.specs.declared.PileFault.{PileFault}
 use Rattle.faults.specs.declared.PileFault.TheVariants.{Format, Unclaimed}
@@ -51,10 +50,6 @@ module _ {X : Type 0} where
 and_false : (x y : Bool) → (x && y) ≡ false → y ≡ true → x ≡ false
 and_false true y e h = absurd (both_ways y e h)
 and_false false y e h = refl
-
--- what the claims tell
-pub shared-told : (f g : Claim) (x y : Claims) → ((o : ℕ) → o < 256 → claims x o ≡ f o) → ((o : ℕ) → o < 256 → claims y o ≡ g o) → shared (claims x) (claims y) ≡ shared f g
-shared-told f g x y h k = lowest-same (both (claims x) (claims y)) (both f g) 256 (λ o l. rw (h o l, k o l) refl)
 
 -- beside claims nothing where both claim something
 module _ (f g : Claim) where

@@ -2,7 +2,7 @@ use Rattle.std.proofs.Common.{◌+◌, ◌-◌, ◌*◌, ap, ◌∙◌, arith}
 use Rattle.channels.specs.declared.ChannelSet.{ChannelSet}
 use Rattle.channels.specs.Sets.{holds, put_eight}
 use Rattle.channels.proofs.Views.{changed}
-use Rattle.formats.specs.MapLaws.{octet_more, none-put, all-put}
+use Rattle.formats.proofs.MapCalls.{octet_more, none-put, all-put}
 use Rattle.formats.proofs.bitmap0.decode.Goals as goal
 
 pub loop-i-init : goal.loop-i-init

@@ -1,5 +1,5 @@
 use Rattle.std.proofs.Common.{◌≡◌, Bool, true, false, not, is_some, sym, refl, ap, ◌∙◌, arith}
-use Rattle.formats.specs.MapLaws.{some-beyond, above_map}
+use Rattle.formats.proofs.MapCalls.{some-beyond, above_map}
 use Rattle.formats.proofs.bitmap0.in_map.Goals as goal
 
 not-not : (b : Bool) → not (not b) ≡ b

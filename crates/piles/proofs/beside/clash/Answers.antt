@@ -1,5 +1,5 @@
 use Rattle.std.proofs.Common.{◌∙◌}
-use Rattle.piles.specs.Combine.{shared-told}
+use Rattle.piles.proofs.Shares.{shared-told}
 use Rattle.piles.proofs.beside.clash.Goals as goal
 
 pub returns : goal.returns

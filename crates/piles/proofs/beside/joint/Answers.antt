@@ -1,5 +1,6 @@
 use Rattle.std.proofs.Common.{◌||◌, sym, ◌∙◌, ap₂}
-use Rattle.piles.specs.Combine.{claim_shared, claim_apart, shared-told}
+use Rattle.piles.specs.Combine.{claim_shared, claim_apart}
+use Rattle.piles.proofs.Shares.{shared-told}
 use Rattle.piles.proofs.beside.joint.Goals as goal
 
 pub returns-in-Some : goal.returns-in-Some
