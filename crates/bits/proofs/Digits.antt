@@ -4,6 +4,7 @@ use native.Mathlib.Nat.{mod-le, zero-div, div-eq_of_lt, mod_self}
 use lib.Bits.{bit_and, bit_or, and_step, or_step, and_self, and_block, and_mask}
 use lib.Count.{ones, ones_step, count_trailing_zeros, under}
 use Rattle.std.proofs.lemmas.Nat.{shr-shr, pow-add, pow_pos, and_shr, or_shr, shl-shr, field_of, mod-pow-add, shr_split, mod_below, pow_below, one_shl}
+use Rattle.std.proofs.Math.Bool.{or-false}
 use Rattle.std.proofs.lemmas.List.{length-append, append-nil}
 use Rattle.std.proofs.lemmas.Bool.{eq-eqb, ne_eqb, cases_lt, cases_eq, cond-true, cond-false, lt-ltb, le-ltb}
 use Rattle.bits.specs.Bits.{bit, number_of, tally, rising}
@@ -327,11 +328,6 @@ pub rising-next : (f : ℕ → Bool) (m n : ℕ) → m ≤ n → ((k : ℕ) → 
 unfolding rising
 rising-next f m n h g t = ap₂ (λ l b. l ++ cond b (n ∷ []) []) (rising-gap f m n h g) t
 
-pub rising-same : (f g : ℕ → Bool) (n : ℕ) → ((k : ℕ) → k < n → f k ≡ g k) → rising f n ≡ rising g n
-unfolding rising
-rising-same f g zero h = refl
-rising-same f g (suc n) h = ap₂ (λ l b. l ++ cond b (n ∷ []) []) (rising-same f g n (λ k l. h k (omega arith))) (h n (omega arith))
-
 -- a word moved up by r bits, with the top r bits of the word below it
 pub bit-joined : (high low r k : ℕ) → low < 2 ^ 64 → r < 64 → k < 64
     → bit (bit_or ((high * 2 ^ r) % 2 ^ 64) (low / 2 ^ (63 - r) / 2)) k ≡ cond (ltb k r) (bit low (k + 64 - r)) (bit high (k - r))
@@ -344,12 +340,8 @@ bit-joined high low r k f h l =
     ∙ ap₂ (λ a b. a || b) hi lo
     ∙ ⊎_elim
     (λ s. ap (λ a. a || bit low (k + 64 - r)) (bit_shl_low high r k s) ∙ sym (cond-true (ltb k r) (bit low (k + 64 - r)) (bit high (k - r)) (lt-ltb k r s)))
-    (λ s. ap₂ (λ a b. a || b) (bit_shl_high high r k s) (bit_past low 64 (k + 64 - r) f (omega arith)) ∙ or_none (bit high (k - r)) ∙ sym (cond-false (ltb k r) (bit low (k + 64 - r)) (bit high (k - r)) (le-ltb k r s)))
+    (λ s. ap₂ (λ a b. a || b) (bit_shl_high high r k s) (bit_past low 64 (k + 64 - r) f (omega arith)) ∙ or-false (bit high (k - r)) ∙ sym (cond-false (ltb k r) (bit low (k + 64 - r)) (bit high (k - r)) (le-ltb k r s)))
     (cases_lt k r)
-  where
-    or_none : (b : Bool) → (b || false) ≡ b
-    or_none true = refl
-    or_none false = refl
 
 -- the low r bits taken away
 pub bit_skipped : (w r k : ℕ) → r < 64 → k < 64 → bit ((w / 2 ^ r * 2 ^ r) % 2 ^ 64) k ≡ cond (ltb k r) false (bit w k)

@@ -48,9 +48,6 @@ pub in_none : (n c : ℕ) → bit_in (replicate n 0) c ≡ false
 unfolding bit_in
 in_none n c = ap (λ w. bit w (c % 64)) (none-at n (c / 64)) ∙ bit-zero (c % 64)
 
-pub fit_none : (n : ℕ) → Fit (replicate n 0)
-fit_none n i = let e = none-at n i in omega arith
-
 -- the words of a test
 pub length-words : (f : ℕ → Bool) (n : ℕ) → length (words_of f n) ≡ n
 unfolding words_of

@@ -1,39 +1,30 @@
 -- The laws of the view of a set.
-use Rattle.std.specs.Bool.{Decides}
 use Rattle.std.specs.Cmp.Lexicographic.{pointwise}
 use Rattle.std.proofs.lemmas.Bool.Decides.{Decides-eqb}
 use Rattle.std.proofs.lemmas.Slice.Eq.{slice_eq-Decides}
-use Rattle.std.proofs.Common.{◌≡◌, ℕ, ◌<◌, ◌≤◌, ◌==◌, Bool, true, false, cond, eqb, ap, List, length, Ok, Err, Result, sym, refl, ◌∙◌, ⊎_elim, arith}
-use mathlib.Core.HLevel.{is_prop→PathP}
-use native.Mathlib.Nat.{ℕ_set}
-use native.Mathlib.Bridge.{le_prop}
-use Rattle.bits.specs.Bits.{bit_in, Fit, tally}
+use Rattle.std.proofs.Common.{◌≡◌, ℕ, ◌<◌, ◌≤◌, ◌==◌, Bool, true, false, cond, eqb, IsTrue, ◌↔◌, ap, Ok, Err, Result, sym, refl, ◌∙◌, ⊎_elim, arith}
+use Rattle.bits.specs.Bits.{tally}
+use Rattle.bits.specs.Numbers.{has}
 use Rattle.bits.proofs.Digits.{length-rising}
 use Rattle.bits.proofs.Rises.{rising_in, rising-up, rising-has}
-use Rattle.bits.proofs.Lists.{in_words, in_past, same-words}
+use Rattle.bits.proofs.Lists.{in_words, in_past}
+use Rattle.bits.proofs.Sets.{same_numbers, same_held}
 use Rattle.faults.specs.declared.SetFault.{SetFault}
 use Rattle.channels.specs.declared.ChannelSet.{ChannelSet}
 use Rattle.channels.specs.Sets.{holds, set_of, no_channels, put, Changed, ViewLaws, MemberLaws}
 use Rattle.std.proofs.lemmas.Bool.{cases_lt, cond-false, ne_eqb, both_ways}
 
-fit_prop : (ws : List ℕ) (p q : Fit ws) → p ≡ q
-fit_prop ws p q = λ i k. le_prop (p k) (q k) i
-
 -- sets of the same words are equal
-pub same-by-words : (a b : ChannelSet) → a.words ≡ b.words → a ≡ b
-same-by-words a b e = λ i. record {
-  words = e i;
-  whole = is_prop→PathP (λ j. length (e j) ≡ 16) (λ j. ℕ_set (length (e j)) 16) a.whole b.whole i;
-  fits = is_prop→PathP (λ j. Fit (e j)) (λ j. fit_prop (e j)) a.fits b.fits i;
-}
+pub same-by-words : (a b : ChannelSet) → a.numbers.words ≡ b.numbers.words → a ≡ b
+same-by-words a b e = λ i. record { numbers = same_numbers a.numbers b.numbers e i }
 
 -- and a test of the words tells whether they are
-pub words_decide : (a b : ChannelSet) (r : Bool) → r ≡ pointwise ◌==◌ a.words b.words → Decides r (a ≡ b)
+pub words_decide : (a b : ChannelSet) (r : Bool) → r ≡ pointwise ◌==◌ a.numbers.words b.numbers.words → IsTrue r ↔ (a ≡ b)
 words_decide a b r e =
-    let d = slice_eq-Decides Decides-eqb a.words b.words r e in
-    (λ t. same-by-words a b (d.0 t), λ q. d.1 (ap (λ (s : ChannelSet). s.words) q))
+    let d = slice_eq-Decides Decides-eqb a.numbers.words b.numbers.words r e in
+    (λ t. same-by-words a b (d.0 t), λ q. d.1 (ap (λ (s : ChannelSet). s.numbers.words) q))
 
-pub holds-bits : (s : ChannelSet) (c : ℕ) → holds s c ≡ bit_in s.words c
+pub holds-bits : (s : ChannelSet) (c : ℕ) → holds s c ≡ has s.numbers c
 unfolding holds
 holds-bits s c = refl
 
@@ -43,11 +34,11 @@ holds_of f c h = in_words f 16 c h
 
 pub holds-past : (s : ChannelSet) (c : ℕ) → 1024 ≤ c → holds s c ≡ false
 unfolding holds
-holds-past s c h = let e = s.whole in in_past s.words c (omega arith)
+holds-past s c h = let e = s.numbers.whole in in_past s.numbers.words c (omega arith)
 
 pub same_set : (a b : ChannelSet) → ((c : ℕ) → c < 1024 → holds a c ≡ holds b c) → a ≡ b
 unfolding holds
-same_set a b h = same-by-words a b (same-words a.words b.words 16 a.whole b.whole a.fits b.fits h)
+same_set a b h = let e = same_held a.numbers b.numbers h in λ i. record { numbers = e i }
 
 pub set_is : (s : ChannelSet) (f : ℕ → Bool) → ((c : ℕ) → c < 1024 → holds s c ≡ f c) → s ≡ set_of f
 set_is s f h = same_set s (set_of f) (λ c l. h c l ∙ sym (holds_of f c l))

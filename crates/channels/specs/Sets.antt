@@ -1,7 +1,8 @@
 -- Sets by their members.
-use Rattle.std.specs.Prelude.{◌≡◌, ℕ, ◌+◌, ◌-◌, ◌%◌, ◌<◌, ◌≤◌, Bool, true, false, cond, not, ◌&&◌, ◌||◌, List, length, take, is_some, Ok, Err, Option, Result, Decides, ◌==◌, nat_le, nat_lt, slice_index}
-use Rattle.bits.specs.Bits.{bit, bit_in, number_of, words_of, tally, rising}
+use Rattle.std.specs.Prelude.{◌≡◌, ℕ, ◌+◌, ◌-◌, ◌%◌, ◌<◌, ◌≤◌, Bool, true, false, if◌then◌else◌, IsTrue, ◌↔◌, not, ◌&&◌, ◌||◌, List, length, take, is_some, Ok, Err, Option, Result, ◌==◌, nat_le, nat_lt, slice_index}
+use Rattle.bits.specs.Bits.{bit, number_of, words_of, tally, rising}
 use Rattle.bits.specs.Lowest.{lowest}
+use Rattle.bits.specs.Numbers.{has}
 use Rattle.bits.proofs.Lists.{length-words, fit_words}
 use Rattle.channels.specs.declared.ChannelSet.{ChannelSet}
 use Rattle.faults.specs.declared.SetFault.{SetFault}
@@ -9,11 +10,11 @@ use Rattle.faults.specs.declared.SetFault.TheVariants.{OverRange}
 
 -- whether a set holds a channel: never from 1024 on
 unfoldable pub holds : ChannelSet → ℕ → Bool
-holds s c = bit_in s.words c
+holds s c = has s.numbers c
 
 -- the set of the channels that pass a test
 unfoldable pub set_of : (ℕ → Bool) → ChannelSet
-set_of f = record { words = words_of f 16; whole = length-words f 16; fits = fit_words f 16 }
+set_of f = record { numbers = record { words = words_of f 16; whole = length-words f 16; fits = fit_words f 16 } }
 
 abbrev pub no_channels : ChannelSet
 no_channels = set_of (λ _. false)
@@ -23,7 +24,7 @@ all_channels = set_of (λ _. true)
 
 -- one channel put in or taken out
 abbrev pub put : ChannelSet → ℕ → Bool → ChannelSet
-put s c b = set_of (λ k. cond (k == c) b (holds s k))
+put s c b = set_of (λ k. if k == c then b else holds s k)
 
 -- the channels from + k put in, for which bit k of an octet is set
 abbrev pub put_eight : ChannelSet → ℕ → ℕ → ChannelSet
@@ -82,7 +83,7 @@ pub record MemberLaws : Type 0 where
 
 -- a test of two sets that tells whether they are one value
 abbrev pub IsEquality : (ChannelSet → ChannelSet → Bool) → Type 0
-IsEquality eq = (a b : ChannelSet) → Decides (eq a b) (a ≡ b)
+IsEquality eq = (a b : ChannelSet) → IsTrue (eq a b) ↔ (a ≡ b)
 
 -- the laws of the view
 pub record ViewLaws : Type 0 where
@@ -90,4 +91,4 @@ pub record ViewLaws : Type 0 where
   pub past : (s : ChannelSet) (c : ℕ) → 1024 ≤ c → holds s c ≡ false
   pub same : (a b : ChannelSet) → ((c : ℕ) → c < 1024 → holds a c ≡ holds b c) → a ≡ b
   pub none : (c : ℕ) → holds no_channels c ≡ false
-  pub one-put : (s : ChannelSet) (c : ℕ) (x : Bool) → c < 1024 → (k : ℕ) → holds (put s c x) k ≡ cond (k == c) x (holds s k)
+  pub one-put : (s : ChannelSet) (c : ℕ) (x : Bool) → c < 1024 → (k : ℕ) → holds (put s c x) k ≡ (if k == c then x else holds s k)

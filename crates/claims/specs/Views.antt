@@ -6,7 +6,7 @@ use Rattle.claims.specs.declared.Claims.{Claims}
 
 -- whether an octet is claimed: none from 256 on
 abbrev pub claims : Claims → ℕ → Bool
-claims x o = bit_within x.words o
+claims x o = bit_within x.octets.words o
 
 -- the lowest first octet that two tests pass
 abbrev pub both : (ℕ → Bool) → (ℕ → Bool) → ℕ → Bool

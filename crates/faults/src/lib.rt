@@ -4,7 +4,7 @@
 
 ghost use Rattle.std.specs.Prelude.{◌≡◌, ℕ, Some, None};
 ghost use Rattle.faults.specs.declared.Refusal.{Refusal as Told};
-ghost use Rattle.faults.specs.Refusals.{of_set, of_format, of_pile, of_record, of_volume, start_of};
+ghost use Rattle.faults.specs.Refusals.{refusal, of_set, of_format, of_pile, of_record, of_volume, start_of};
 ghost use Rattle.faults.specs.declared.PileFault.TheVariants.{Format as from_format};
 ghost use Rattle.faults.specs.declared.RecordFault.TheVariants.{Pile as from_pile};
 ghost use Rattle.faults.specs.declared.VolumeFault.TheVariants.{Record as from_record};
@@ -19,6 +19,7 @@ pub enum Layer {
     Volume,
 }
 
+// Users are told refusals by their numbers, from 1 to 14, and keep them: `number` is that number, and no enum of kinds.
 #[derive(Clone, Copy, PartialEq, Eq, Debug)]
 pub struct Refusal {
     pub number: u8,
@@ -99,7 +100,7 @@ pub enum PileFault {
 }
 
 // A record is not one that can be filed, or not one that can be read.
-#[derive(Clone, Copy, Debug)]
+#[derive(Clone, Copy, PartialEq, Eq, Debug)]
 pub enum RecordFault {
     Pile(PileFault),
     // a kind that the call does not take, or a limit or flags that the kind has not
@@ -111,7 +112,7 @@ pub enum RecordFault {
 }
 
 // A volume cannot take or give a record here.
-#[derive(Clone, Copy, Debug)]
+#[derive(Clone, Copy, PartialEq, Eq, Debug)]
 pub enum VolumeFault {
     // what is wrong with a record, and where the record starts if the volume can tell
     Record {
@@ -135,7 +136,7 @@ pub enum VolumeFault {
 }
 
 // A record's fault with the place where the record starts.
-#[derive(Clone, Copy)]
+#[derive(Clone, Copy, PartialEq, Eq, Debug)]
 pub struct Located {
     pub start: usize,
     pub fault: RecordFault,
@@ -146,11 +147,7 @@ impl Fault for SetFault {
 
     fn refusal(&self) -> Refusal {
         match self {
-            SetFault::OverRange => Refusal {
-                number: 1,
-                layer: Layer::Set,
-                place: 0,
-            },
+            SetFault::OverRange => refused(1, Layer::Set, 0),
         }
     }
 }
@@ -160,16 +157,8 @@ impl Fault for FormatFault {
 
     fn refusal(&self) -> Refusal {
         match self {
-            FormatFault::Length => Refusal {
-                number: 2,
-                layer: Layer::Format,
-                place: 0,
-            },
-            FormatFault::NumberAfterNull(i) => Refusal {
-                number: 4,
-                layer: Layer::Format,
-                place: *i as usize,
-            },
+            FormatFault::Length => refused(2, Layer::Format, 0),
+            FormatFault::NumberAfterNull(i) => refused(4, Layer::Format, *i as usize),
         }
     }
 }
@@ -180,19 +169,15 @@ impl Fault for PileFault {
     fn refusal(&self) -> Refusal {
         match self {
             PileFault::Format(f) => f.refusal(),
-            PileFault::Unclaimed => in_pile(3, 0),
-            PileFault::SharedClaim(octet) => in_pile(5, *octet as usize),
-            PileFault::OutsideLicence(channel) => in_pile(6, *channel as usize),
-            PileFault::Unwritten => in_pile(7, 0),
+            PileFault::Unclaimed => refused(3, Layer::Pile, 0),
+            PileFault::SharedClaim(octet) => refused(5, Layer::Pile, *octet as usize),
+            PileFault::OutsideLicence(channel) => refused(6, Layer::Pile, *channel as usize),
+            PileFault::Unwritten => refused(7, Layer::Pile, 0),
             PileFault::Maker {
                 cause,
                 layer,
                 place,
-            } => Refusal {
-                number: *cause as u8,
-                layer: *layer,
-                place: *place,
-            },
+            } => refused(*cause as u8, *layer, *place),
         }
     }
 }
@@ -203,9 +188,9 @@ impl Fault for RecordFault {
     fn refusal(&self) -> Refusal {
         match self {
             RecordFault::Pile(f) => f.refusal(),
-            RecordFault::Argument => in_record(8),
-            RecordFault::DeletedArea => in_record(9),
-            RecordFault::Allocation => in_record(11),
+            RecordFault::Argument => refused(8, Layer::Record, 0),
+            RecordFault::DeletedArea => refused(9, Layer::Record, 0),
+            RecordFault::Allocation => refused(11, Layer::Record, 0),
         }
     }
 }
@@ -216,10 +201,10 @@ impl Fault for VolumeFault {
     fn refusal(&self) -> Refusal {
         match self {
             VolumeFault::Record { fault, .. } => fault.refusal(),
-            VolumeFault::NoneInForce { .. } => in_volume(10, 0),
-            VolumeFault::Area => in_volume(12, 0),
-            VolumeFault::Full { start } => in_volume(13, *start),
-            VolumeFault::Frame { start } => in_volume(14, *start),
+            VolumeFault::NoneInForce { .. } => refused(10, Layer::Volume, 0),
+            VolumeFault::Area => refused(12, Layer::Volume, 0),
+            VolumeFault::Full { start } => refused(13, Layer::Volume, *start),
+            VolumeFault::Frame { start } => refused(14, Layer::Volume, *start),
         }
     }
 }
@@ -239,32 +224,12 @@ impl VolumeFault {
     }
 }
 
-fn in_pile(number: u8, place: usize) -> Refusal
-    ensures { result ≡ record { number = number; layer = Layer.Pile; place = place } }
+fn refused(number: u8, layer: Layer, place: usize) -> Refusal
+    ensures { result ≡ refusal number layer place }
 {
     Refusal {
         number,
-        layer: Layer::Pile,
-        place,
-    }
-}
-
-fn in_record(number: u8) -> Refusal
-    ensures { result ≡ record { number = number; layer = Layer.Record; place = 0 } }
-{
-    Refusal {
-        number,
-        layer: Layer::Record,
-        place: 0,
-    }
-}
-
-fn in_volume(number: u8, place: usize) -> Refusal
-    ensures { result ≡ record { number = number; layer = Layer.Volume; place = place } }
-{
-    Refusal {
-        number,
-        layer: Layer::Volume,
+        layer,
         place,
     }
 }

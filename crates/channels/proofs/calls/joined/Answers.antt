@@ -1,6 +1,0 @@
-use Rattle.std.proofs.Common.{arith}
-use Rattle.bits.proofs.Digits.{bit-joined}
-use Rattle.channels.proofs.calls.joined.Goals as goal
-
-pub returns : goal.returns
-returns c k l = bit-joined c.args.high c.args.low c.args.r k (omega arith) (omega arith) l
