@@ -6,7 +6,7 @@ use Rattle.bits.proofs.Lows.{lowest-none, lowest-some, lowest_is_none, lowest_is
 use Rattle.channels.specs.declared.ChannelSet.{ChannelSet}
 use Rattle.channels.specs.Sets.{holds, above, next_above}
 use Rattle.channels.proofs.Views.{holds-past}
-use Rattle.origins.specs.Origins.{ahead, can_origin, origin_of, lowest_of, later_origin, from_lowest}
+use Rattle.origins.specs.Origins.{ahead, can_origin, origin_of, lowest_of, later_origin, from_lowest, or_lowest, Follows}
 use Rattle.origins.proofs.Reach.{member_below, by_farthest, no_member}
 
 -- nothing passes from m up to n
@@ -55,7 +55,7 @@ none_above s p e k l =
     ⊎_elim (λ h. ⊎_elim (λ no. absurd (both_ways (ltb p k) no (lt-ltb p k l))) (λ no. no) (and_cases (ltb p k) (holds s k) (lowest-none (above s p) 1024 e k h))) (λ h. holds-past s k h) (cases_lt k 1024)
 
 -- the member before is the farthest one ahead
-pub by_before : (s : ChannelSet) (R p c : ℕ) → holds s p ≡ true → next_above s p ≡ Some c → can_origin s R c ≡ leb (ahead c p) R
+by_before : (s : ChannelSet) (R p c : ℕ) → holds s p ≡ true → next_above s p ≡ Some c → can_origin s R c ≡ leb (ahead c p) R
 by_before s R p c hp e =
     let n = next_is s p c e in
     let up = n.up in
@@ -69,7 +69,7 @@ by_before s R p c hp e =
     at_most : (m p : ℕ) → (m ≤ p) ⊎ (p < m)
     at_most m p = ⊎_elim inr inl (cases_lt p m)
 
-pub by_highest : (s : ChannelSet) (R c p : ℕ) → lowest_of s ≡ Some c → holds s p ≡ true → next_above s p ≡ None → can_origin s R c ≡ leb (ahead c p) R
+by_highest : (s : ChannelSet) (R c p : ℕ) → lowest_of s ≡ Some c → holds s p ≡ true → next_above s p ≡ None → can_origin s R c ≡ leb (ahead c p) R
 by_highest s R c p lo hp e =
     let f = lowest-some (holds s) 1024 c lo in
     let cb = f.below in
@@ -80,6 +80,20 @@ by_highest s R c p lo hp e =
     let b = first p hp in
     let l = member_below s m t in
     ⊎_elim (λ high. absurd (both_ways (holds s m) (none_above s p e m high) t)) (λ low. omega arith) (cases_lt p m))
+
+pub follows-below : (s : ChannelSet) (p c : ℕ) → Follows s p c → c < 1024
+follows-below s p c f = go (next_above s p) refl f.next
+  where
+    go : (o : Option ℕ) → next_above s p ≡ o → or_lowest s o ≡ Some c → c < 1024
+    go (Some d) e q = (next_is s p c (e ∙ q)).below
+    go None e q = (lowest-some (holds s) 1024 c q).below
+
+pub by_follows : (s : ChannelSet) (R p c : ℕ) → Follows s p c → can_origin s R c ≡ leb (ahead c p) R
+by_follows s R p c f = go (next_above s p) refl f.next
+  where
+    go : (o : Option ℕ) → next_above s p ≡ o → or_lowest s o ≡ Some c → can_origin s R c ≡ leb (ahead c p) R
+    go (Some d) e q = by_before s R p c f.held (e ∙ q)
+    go None e q = by_highest s R c p q f.held e
 
 -- the later ones
 abbrev later : ChannelSet → ℕ → ℕ → ℕ → Bool

@@ -2,7 +2,7 @@
 use Rattle.std.specs.Prelude.{◌≡◌, ℕ, ◌+◌, ◌-◌, ◌%◌, ◌<◌, ◌≤◌, Bool, true, cond, not, ◌&&◌, is_some, Some, None, Option, nat_lt}
 use Rattle.bits.specs.Lowest.{lowest}
 use Rattle.channels.specs.declared.ChannelSet.{ChannelSet}
-use Rattle.channels.specs.Sets.{holds, set_of}
+use Rattle.channels.specs.Sets.{holds, next_above, set_of}
 
 -- how far a channel m lies ahead of c: (m - c) mod 1024
 abbrev pub ahead : ℕ → ℕ → ℕ
@@ -54,3 +54,13 @@ later_origin s R n m = lowest (λ c. nat_lt n c && can_origin s R c) m
 abbrev pub from_lowest : ChannelSet → ℕ → Option ℕ → Option ℕ
 from_lowest s R None = None
 from_lowest s R (Some c) = cond (can_origin s R c) (Some c) (later_origin s R c 1024)
+
+-- what follows a member round the circle: the next above it, or the lowest where none is above it
+abbrev pub or_lowest : ChannelSet → Option ℕ → Option ℕ
+or_lowest s (Some c) = Some c
+or_lowest s None = lowest_of s
+
+-- p is the member before c, round the circle
+pub record Follows (s : ChannelSet) (p c : ℕ) : Type 0 where
+  pub held : holds s p ≡ true
+  pub next : or_lowest s (next_above s p) ≡ Some c

@@ -6,7 +6,7 @@ use Rattle.packing.specs.declared.Range.{Range}
 use Rattle.packing.specs.declared.Range.TheVariants.{R1024, R512, R256, R128}
 use Rattle.packing.specs.Ranges.{width_of, start_of, least_of, longest, HasLength}
 use Rattle.packing.specs.Fields.{level, width, before}
-use Rattle.packing.specs.Slots.{Slots, greatest, slots_of, row_of, is_count, are_counts, row_counts, table_counts}
+use Rattle.packing.specs.Slots.{Slots, greatest, slots_of, is_count, are_counts, row_counts}
 use Rattle.packing.proofs.Widths.{before-none, before_mono, before_le}
 
 module _ (K start len : ℕ) where
@@ -104,21 +104,16 @@ row_at K start a (n ∷ ns) e (suc k) h =
     let s : suc a + k ≡ a + suc k = omega arith in
     subst (λ l. is_count K start l (get_or ns k 0) ≡ true) s (row_at K start (suc a) ns p.1 k (omega arith))
 
-rows_good : (t : List (List ℕ)) → table_counts t ≡ true → (r : Range) → row_counts t r ≡ true
-rows_good t e R1024 = (and_parts (row_counts t R1024) (row_counts t R512) (and_parts (row_counts t R1024 && row_counts t R512) (row_counts t R256 && row_counts t R128) e).0).0
-rows_good t e R512 = (and_parts (row_counts t R1024) (row_counts t R512) (and_parts (row_counts t R1024 && row_counts t R512) (row_counts t R256 && row_counts t R128) e).0).1
-rows_good t e R256 = (and_parts (row_counts t R256) (row_counts t R128) (and_parts (row_counts t R1024 && row_counts t R512) (row_counts t R256 && row_counts t R128) e).1).0
-rows_good t e R128 = (and_parts (row_counts t R256) (row_counts t R128) (and_parts (row_counts t R1024 && row_counts t R512) (row_counts t R256 && row_counts t R128) e).1).1
+pub counts-long : (r : Range) (ns : List ℕ) → row_counts r ns ≡ true → length ns ≡ longest
+counts-long r ns h = eqb-true (length ns) longest (and_parts (eqb (length ns) longest) (are_counts (width_of r) (start_of r) 1 ns) h).0
 
-pub table_at : (t : List (List ℕ)) → table_counts t ≡ true → (r : Range) (k len : ℕ) → k ≡ row_of r → 1 ≤ len → len ≤ longest → get_or (get_or t k []) (len - 1) 0 ≡ slots_of r len
-table_at t h r k len e l m =
-    let row = get_or t (row_of r) [] in
-    let g = and_parts (eqb (length row) longest) (are_counts (width_of r) (start_of r) 1 row) (rows_good t h r) in
+pub count_at : (r : Range) (ns : List ℕ) → row_counts r ns ≡ true → (len : ℕ) → 1 ≤ len → len ≤ longest → get_or ns (len - 1) 0 ≡ slots_of r len
+count_at r ns h len l m =
+    let g = and_parts (eqb (length ns) longest) (are_counts (width_of r) (start_of r) 1 ns) h in
     let s : 1 + (len - 1) ≡ len = omega arith in
-    let long : length row ≡ longest = eqb-true (length row) longest g.0 in
-    ap (λ i. get_or (get_or t i []) (len - 1) 0) e
-    ∙ count_is (width_of r) (start_of r) len (get_or row (len - 1) 0)
-    (subst (λ i. is_count (width_of r) (start_of r) i (get_or row (len - 1) 0) ≡ true) s (row_at (width_of r) (start_of r) 1 row g.1 (len - 1) (omega arith)))
+    let long = counts-long r ns h in
+    count_is (width_of r) (start_of r) len (get_or ns (len - 1) 0)
+    (subst (λ i. is_count (width_of r) (start_of r) i (get_or ns (len - 1) 0) ≡ true) s (row_at (width_of r) (start_of r) 1 ns g.1 (len - 1) (omega arith)))
     ∙ sym (slots-inside r len m)
 
 -- no length has fewer than no octets

@@ -1,9 +1,10 @@
 -- Laws of the fields of octets.
-use Rattle.std.proofs.Common.{◌≡◌, ℕ, zero, suc, ◌+◌, ◌-◌, ◌*◌, ◌/◌, ◌%◌, ◌^◌, ◌<◌, ◌≤◌, Bool, true, false, eqb, List, get_or, sym, refl, ap, ◌∙◌, subst, ap₂, add-suc, zero-add, mul_left_comm, arith}
+use Rattle.std.proofs.Common.{◌≡◌, ℕ, zero, suc, ◌+◌, ◌-◌, ◌*◌, ◌/◌, ◌%◌, ◌^◌, ◌<◌, ◌≤◌, Bool, true, false, eqb, List, get_or, sym, refl, ap, ◌∙◌, subst, ap₂, add-suc, zero-add, add-zero, mul_left_comm, lit<, w64, arith}
+use Rattle.std.specs.Int.{from_be_bytes}
 use Rattle.std.proofs.lemmas.Nat.{shr_below, shr_high, mod_below}
 use Rattle.bits.specs.Bits.{bit}
 use Rattle.bits.proofs.Digits.{digit, pow_more, bit-next, bit_shr, bit_mod, bit_shl_high, bits-same}
-use Rattle.packing.specs.Fields.{bit_at, field}
+use Rattle.packing.specs.Fields.{Octets, bit_at, field}
 
 -- the bits of one octet
 pub at_octet : (os : List ℕ) (k y : ℕ) → y < 8 → bit_at os (8 * k + y) ≡ bit (get_or os k 0) (7 - y)
@@ -121,6 +122,16 @@ field_eight os k a b c d e f g h pa pb pc pd pe pf pg ph ba bb bc bd be bf bg bh
     let q6 : field os (8 * k) 56 ≡ field os (8 * k) 48 * 256 + g = field-octets os k 6 (omega arith) ∙ ap (λ o. field os (8 * k) 48 * 256 + o) (sym pg) in
     let q7 : field os (8 * k) 64 ≡ field os (8 * k) 56 * 256 + h = field-octets os k 7 (omega arith) ∙ ap (λ o. field os (8 * k) 56 * 256 + o) (sym ph) in
     omega arith
+
+-- eight octets as one number
+pub word_is : (os bs : List ℕ) (k : ℕ) → ((j : ℕ) → j < 8 → get_or bs j 0 ≡ get_or os (k + j) 0) → Octets os → from_be_bytes w64 bs ≡ field os (8 * k) 64
+word_is os bs k same low =
+    field_eight os k (get_or bs 0 0) (get_or bs 1 0) (get_or bs 2 0) (get_or bs 3 0) (get_or bs 4 0) (get_or bs 5 0) (get_or bs 6 0) (get_or bs 7 0)
+    (same 0 (lit< tt) ∙ ap (λ i. get_or os i 0) (add-zero k)) (same 1 (lit< tt)) (same 2 (lit< tt)) (same 3 (lit< tt)) (same 4 (lit< tt)) (same 5 (lit< tt)) (same 6 (lit< tt)) (same 7 (lit< tt))
+    (below 0 (lit< tt)) (below 1 (lit< tt)) (below 2 (lit< tt)) (below 3 (lit< tt)) (below 4 (lit< tt)) (below 5 (lit< tt)) (below 6 (lit< tt)) (below 7 (lit< tt))
+  where
+    below : (j : ℕ) → j < 8 → get_or bs j 0 < 256
+    below j l = omega (arith, same j l, low (k + j))
 
 -- a field within a window of 64 bits
 pub field_in : (os : List ℕ) (base p w v : ℕ) → v ≡ field os base 64 → base ≤ p → p + w ≤ base + 64

@@ -1,14 +1,14 @@
 -- Laws of the octets that numbers are written as.
-use Rattle.std.proofs.Common.{◌≡◌, ℕ, zero, suc, ◌+◌, ◌-◌, ◌*◌, ◌/◌, ◌%◌, ◌<◌, ◌≤◌, Bool, false, cond, ◌||◌, ltb, List, ◌++◌, length, get_or, drop, set, sym, refl, ap, ◌∙◌, subst, ap₂, ⊎_elim, arith}
+use Rattle.std.proofs.Common.{◌≡◌, ℕ, zero, suc, ◌+◌, ◌-◌, ◌*◌, ◌/◌, ◌%◌, ◌^◌, ◌<◌, ◌≤◌, Bool, false, ◌||◌, List, length, get_or, take, drop, sym, refl, ap, ◌∙◌, subst, ap₂, ⊎_elim, add-one, arith}
 use Rattle.std.proofs.lemmas.List.FromFn.{length-map-range_with_len, get_or-map-range_with_len}
-use Rattle.std.proofs.lemmas.List.{ext_get_or, get_or-set_same, get_or-set_other, get_or_past, get_or-drop, get_or_append_left, get_or-append_right, length-append, length-drop}
-use Rattle.std.proofs.lemmas.Bool.{cases_lt, cases_eq, cond-true, cond-false, lt-ltb, le-ltb}
+use Rattle.std.proofs.lemmas.List.{ext_get_or, get_or_past, get_or-take, get_or-drop, length-take-le, length-drop}
+use Rattle.std.proofs.lemmas.Bool.{cases_lt, cases_eq}
 use Rattle.bits.specs.Bits.{bit, number_of}
 use Rattle.bits.proofs.Digits.{bit-number, number-below, bits-same, bit-zero}
 use Rattle.packing.specs.declared.Range.{Range}
 use Rattle.packing.specs.Ranges.{width_of, start_of}
 use Rattle.packing.specs.Fields.{Octets, bit_at, width, before}
-use Rattle.packing.specs.Writing.{stands, laid, octets_of, packed}
+use Rattle.packing.specs.Writing.{Packable, stands, laid, octets_of, packed}
 use Rattle.packing.proofs.Widths.{before_more, before_mono}
 use Rattle.packing.proofs.Fields.{at_split, at_octet}
 use Rattle.packing.proofs.Stands.{or_none, stands-before, stands-behind}
@@ -45,35 +45,6 @@ octets-same os us e f g h =
     (λ k l. bits-same 8 (get_or os k 0) (get_or us k 0) (f k) (g k)
     (λ b m. let i : b ≡ 7 - (7 - b) = omega arith in
     ap (bit (get_or os k 0)) i ∙ sym (at_octet os k (7 - b) (omega arith)) ∙ h (8 * k + (7 - b)) (omega arith) ∙ at_octet us k (7 - b) (omega arith) ∙ ap (bit (get_or us k 0)) (sym i)))
-
--- some octets, and the old ones behind them
-module _ (os us : List ℕ) (h : length os ≤ length us) where
-  pub joined-long : length (os ++ drop (length os) us) ≡ length us
-  joined-long = length-append os (drop (length os) us) ∙ omega (arith, length-drop (length os) us)
-
-  joined-left : (k : ℕ) → k < length os → get_or (os ++ drop (length os) us) k 0 ≡ get_or os k 0
-  joined-left k l = get_or_append_left os (drop (length os) us) 0 k l
-
-  joined-right : (k : ℕ) → length os ≤ k → get_or (os ++ drop (length os) us) k 0 ≡ get_or us k 0
-  joined-right k l =
-      let e : length os + (k - length os) ≡ k = omega arith in
-      get_or-append_right os (drop (length os) us) (length os) k 0 refl l ∙ get_or-drop (length os) us (k - length os) 0 ∙ ap (λ j. get_or us j 0) e
-
-  pub joined-below : Octets os → Octets us → Octets (os ++ drop (length os) us)
-  joined-below f g k = ⊎_elim (λ l. omega (arith, joined-left k l, f k)) (λ l. omega (arith, joined-right k l, g k)) (cases_lt k (length os))
-
-  pub joined_at : (x : ℕ) → bit_at (os ++ drop (length os) us) x ≡ cond (ltb x (8 * length os)) (bit_at os x) (bit_at us x)
-  joined_at x =
-      at_split (os ++ drop (length os) us) x
-      ∙ ⊎_elim
-      (λ l. ap (λ o. bit o (7 - x % 8)) (joined-left (x / 8) (omega arith)) ∙ sym (at_split os x) ∙ sym (cond-true (ltb x (8 * length os)) (bit_at os x) (bit_at us x) (lt-ltb x (8 * length os) l)))
-      (λ l. ap (λ o. bit o (7 - x % 8)) (joined-right (x / 8) (omega arith)) ∙ sym (at_split us x) ∙ sym (cond-false (ltb x (8 * length os)) (bit_at os x) (bit_at us x) (le-ltb x (8 * length os) l)))
-      (cases_lt x (8 * length os))
-
--- octets that are 0, and one more
-pub zeros_more : (os : List ℕ) (k : ℕ) → k < length os → ((j : ℕ) → j < k → get_or os j 0 ≡ 0) → (j : ℕ) → j < k + 1 → get_or (set os k 0) j 0 ≡ 0
-zeros_more os k l h j m =
-    ⊎_elim (λ same. ap (λ i. get_or (set os k 0) i 0) same ∙ get_or-set_same os k 0 0 l) (λ other. get_or-set_other os k j 0 0 other ∙ h j (omega arith)) (cases_eq j k)
 
 zeros_at : (os : List ℕ) (len : ℕ) → ((k : ℕ) → k < len → get_or os k 0 ≡ 0) → (x : ℕ) → x < 8 * len → bit_at os x ≡ false
 zeros_at os len h x l = at_split os x ∙ ap (λ o. bit o (7 - x % 8)) (h (x / 8) (omega arith)) ∙ bit-zero (7 - x % 8)
@@ -131,57 +102,28 @@ pub at_packed : (r : Range) (h : ℕ) (W : ℕ → ℕ) (n len x : ℕ) → x < 
 unfolding packed
 at_packed r h W n len x l = at-octets (laid (width_of r) (start_of r) (stands 0 (start_of r) h) W n) len x l
 
--- the steps of the program come to the octets wanted, and leave those behind them
+-- the steps of the program come to the octets wanted
 module _ (r : Range) (h : ℕ) (W : ℕ → ℕ) (n len : ℕ) (old headed out : List ℕ)
-    (long : length old ≡ 130) (same : length out ≡ 130) (fits : len ≤ 130) (whole : start_of r + before (width_of r) n ≤ 8 * len)
-    (low : Octets old) (now : Octets out)
+    (long : length out ≡ len) (low : Octets out)
     (zeros : (k : ℕ) → k < len → get_or old k 0 ≡ 0)
-    (heads : (x : ℕ) → x < 1040 → bit_at headed x ≡ (bit_at old x || stands 0 (start_of r) h x))
-    (lays : (x : ℕ) → x < 1040 → bit_at out x ≡ laid (width_of r) (start_of r) (bit_at headed) W n x) where
-  P : List ℕ
-  P = packed r h W n len
-
-  inside : (x : ℕ) → x < 8 * len → bit_at out x ≡ bit_at P x
-  unfolding P
-  inside x l =
-      lays x (omega arith)
+    (heads : (x : ℕ) → x < 8 * len → bit_at headed x ≡ (bit_at old x || stands 0 (start_of r) h x))
+    (lays : (x : ℕ) → x < 8 * len → bit_at out x ≡ laid (width_of r) (start_of r) (bit_at headed) W n x) where
+  pub packs : out ≡ packed r h W n len
+  packs =
+      octets-same out (packed r h W n len) (long ∙ sym (length-packed r h W n len)) low (packed-below r h W n len)
+      (λ x m. let l : x < 8 * len = omega (arith, long) in
+      lays x l
       ∙ laid_same (width_of r) (start_of r) (bit_at headed) (stands 0 (start_of r) h) W n x
-      (heads x (omega arith) ∙ ap (λ b. b || stands 0 (start_of r) h x) (zeros_at old len zeros x l))
-      ∙ sym (at_packed r h W n len x l)
-
-  outside : (x : ℕ) → 8 * len ≤ x → x < 1040 → bit_at out x ≡ bit_at old x
-  outside x l m =
-      lays x m
-      ∙ laid-behind (width_of r) (start_of r) (bit_at headed) W n x (omega arith)
-      ∙ heads x m
-      ∙ ap (λ b. bit_at old x || b) (stands-behind 0 (start_of r) h x (omega arith))
-      ∙ or_none (bit_at old x)
-
-  joined : out ≡ P ++ drop (length P) old
-  unfolding P
-  joined =
-      let e : length P ≡ len = length-packed r h W n len in
-      octets-same out (P ++ drop (length P) old) (same ∙ sym long ∙ sym (joined-long P old (omega arith))) now (joined-below P old (omega arith) (packed-below r h W n len) low)
-      (λ x l. ⊎_elim
-      (λ a. inside x (omega arith) ∙ sym (cond-true (ltb x (8 * length P)) (bit_at P x) (bit_at old x) (lt-ltb x (8 * length P) a)))
-      (λ a. outside x (omega arith) (omega arith) ∙ sym (cond-false (ltb x (8 * length P)) (bit_at P x) (bit_at old x) (le-ltb x (8 * length P) a)))
-      (cases_lt x (8 * length P))
-      ∙ sym (joined_at P old (omega arith) x))
-
-  pub packs : out ≡ packed r h W n len ++ drop len old
-  unfolding P
-  packs = joined ∙ ap (λ m. packed r h W n len ++ drop m old) (length-packed r h W n len)
+      (heads x l ∙ ap (λ b. b || stands 0 (start_of r) h x) (zeros_at old len zeros x l))
+      ∙ sym (at_packed r h W n len x l))
 
 -- one number more in the program's loop
-pub laid-step : (r : Range) (f : ℕ → Bool) (W : ℕ → ℕ) (i at w v x : ℕ) (b c : Bool) → 1 ≤ i → at ≡ start_of r + before (width_of r) (i - 1) → w ≡ width (width_of r) i → v ≡ W i
-    → b ≡ laid (width_of r) (start_of r) f W (i - 1) x → c ≡ (b || stands at w v x) → c ≡ laid (width_of r) (start_of r) f W (i + 1 - 1) x
-laid-step r f W zero at w v x b c h p q s e g = absurd (omega arith)
-laid-step r f W (suc k) at w v x b c h p q s e g =
-    let i : suc k - 1 ≡ k = omega arith in
-    let j : suc k ≡ suc k + 1 - 1 = omega arith in
-    let p' : at ≡ start_of r + before (width_of r) k = p ∙ ap (λ m. start_of r + before (width_of r) m) i in
-    g ∙ ap₂ (λ y z. y || z) (e ∙ ap (λ m. laid (width_of r) (start_of r) f W m x) i) (ap (λ a. stands a w v x) p' ∙ ap₂ (λ a b. stands (start_of r + before (width_of r) k) a b x) q s)
-    ∙ sym (laid_more (width_of r) (start_of r) f W k x) ∙ ap (λ m. laid (width_of r) (start_of r) f W m x) j
+pub laid-step : (r : Range) (f : ℕ → Bool) (W : ℕ → ℕ) (k at w v x : ℕ) (b c : Bool) → at ≡ start_of r + before (width_of r) k → w ≡ width (width_of r) (k + 1) → v ≡ W (k + 1)
+    → b ≡ laid (width_of r) (start_of r) f W k x → c ≡ (b || stands at w v x) → c ≡ laid (width_of r) (start_of r) f W (k + 1) x
+laid-step r f W k at w v x b c p q s e g =
+    let i : k + 1 ≡ suc k = add-one k in
+    g ∙ ap₂ (λ y z. y || z) e (ap (λ a. stands a w v x) p ∙ ap₂ (λ a b. stands (start_of r + before (width_of r) k) a b x) (q ∙ ap (width (width_of r)) i) (s ∙ ap W i))
+    ∙ sym (laid_more (width_of r) (start_of r) f W k x) ∙ ap (λ m. laid (width_of r) (start_of r) f W m x) (sym i)
 
 -- only W(1) .. W(n) matter
 laid-numbers : (K start : ℕ) (f : ℕ → Bool) (V W : ℕ → ℕ) (n x : ℕ) → ((i : ℕ) → 1 ≤ i → i ≤ n → V i ≡ W i) → laid K start f V n x ≡ laid K start f W n x
@@ -196,3 +138,18 @@ packed-same r h V W n len e =
     octets-same (packed r h V n len) (packed r h W n len) (length-packed r h V n len ∙ sym (length-packed r h W n len)) (packed-below r h V n len) (packed-below r h W n len)
     (λ x l. let m : x < 8 * len = omega (arith, length-packed r h V n len) in
     at_packed r h V n len x m ∙ laid-numbers (width_of r) (start_of r) (stands 0 (start_of r) h) V W n x e ∙ sym (at_packed r h W n len x m))
+
+-- a part of a table as the numbers W(1) .. W(n)
+pub part_at : (ns : List ℕ) (n i : ℕ) → 1 ≤ i → i ≤ n → get_or (take (n + 1 - 1) (drop 1 ns)) (i - 1) 0 ≡ get_or ns i 0
+part_at ns n i a b =
+    let e : 1 + (i - 1) ≡ i = omega arith in
+    get_or-take (n + 1 - 1) (drop 1 ns) (i - 1) 0 (omega arith) ∙ get_or-drop 1 ns (i - 1) 0 ∙ ap (λ j. get_or ns j 0) e
+
+pub part-long : (ns : List ℕ) (n : ℕ) → n + 1 ≤ length ns → length (take (n + 1 - 1) (drop 1 ns)) ≡ n
+part-long ns n l = length-take-le (n + 1 - 1) (drop 1 ns) (omega (arith, length-drop 1 ns)) ∙ omega arith
+
+pub packable-same : (r : Range) (h : ℕ) (V W : ℕ → ℕ) (m n l len : ℕ) → m ≡ n → l ≡ len → ((i : ℕ) → 1 ≤ i → i ≤ n → V i ≡ W i) → Packable r h W n len → Packable r h V m l
+packable-same r h V W m n l len e f g p =
+    subst (λ m. Packable r h V m l) (sym e)
+    (subst (λ l. Packable r h V n l) (sym f)
+    (record { held = p.held; few = p.few; front = p.front; narrow = λ i a b. subst (λ v. v < 2 ^ width (width_of r) i) (sym (g i a b)) (p.narrow i a b) }))

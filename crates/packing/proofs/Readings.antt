@@ -1,14 +1,19 @@
 -- What reading gives.
-use Rattle.std.proofs.Common.{◌≡◌, ℕ, zero, suc, ◌+◌, ◌-◌, ◌<◌, ◌≤◌, true, false, not, ◌&&◌, ltb, ◌⊎◌, List, length, get_or, set, Some, None, Ok, Err, Option, sym, refl, ap, ◌∙◌, ap₂, inl, inr, ⊎_elim, arith}
+use Rattle.std.proofs.Common.{◌≡◌, ℕ, zero, suc, ◌+◌, ◌-◌, ◌^◌, ◌<◌, ◌≤◌, Bool, true, false, not, eqb, if◌then◌else◌, ◌&&◌, ltb, ◌⊎◌, List, [], ◌∷◌, length, get_or, set, Some, None, Ok, Err, Option, sym, refl, ap, ◌∙◌, ap₂, subst, inl, inr, ⊎_elim, add-zero, add-one, add_assoc, arith}
+use Rattle.std.specs.Bool.{MatchBool}
+use Rattle.std.specs.List.{AllWithin, HoldsAt, list_all}
+use Rattle.std.proofs.lemmas.List.Sums.{AllPass-from_list_all, list_all-from_AllPass}
+use Rattle.std.proofs.lemmas.List.Folds.{list_all_at}
 use Rattle.std.proofs.lemmas.List.{length-set, get_or-set_same, get_or-set_other}
-use Rattle.std.proofs.lemmas.Bool.{cases_lt, cases_eq, eq-eqb, ne_eqb, eqb-true, eqb-false, lt-ltb, le-ltb, ltb-true, and_parts, and_from, and_left, and_right, and_cases, not-true, not-false, not_from_true, not_from_false, both_ways}
+use Rattle.std.proofs.lemmas.Bool.{cases_lt, cases_eq, eq-eqb, ne_eqb, eqb-true, eqb-false, lt-ltb, le-ltb, ltb-true, and_parts, and_from, and_left, and_right, and_cases, not-true, not-false, not_from_true, not_from_false, both_ways, cases_Bool, cond-true, cond-false}
 use Rattle.bits.proofs.Lows.{Found, lowest-none, lowest-some, lowest_is_none, lowest_is_some}
 use Rattle.faults.specs.declared.FormatFault.TheVariants.{NumberAfterNull}
 use Rattle.packing.specs.declared.Range.{Range}
 use Rattle.packing.specs.Ranges.{width_of, start_of}
 use Rattle.packing.specs.Fields.{field, width, before, number_at}
 use Rattle.packing.proofs.Widths.{before_more}
-use Rattle.packing.specs.Reading.{number_in, slots_in, is_null, first_null, later_one, after_null, read_to, unpacked, count_to, leading, filled, Unpacked}
+use Rattle.packing.proofs.Counts.{place-near, slots_small}
+use Rattle.packing.specs.Reading.{Next, number_in, numbers_from, slots_in, is_null, first_null, later_one, after_null, read_to, unpacked, count_to, leading, filled, Unpacked}
 
 pub number_is : (r : Range) (os : List ℕ) (i : ℕ) → number_in r os i ≡ field os (start_of r + before (width_of r) (i - 1)) (width (width_of r) i)
 unfolding number_at
@@ -18,12 +23,68 @@ number_is r os i = refl
 pub step-read : (r : Range) (os : List ℕ) (i at w v : ℕ) → at ≡ start_of r + before (width_of r) (i - 1) → w ≡ width (width_of r) i → v ≡ field os at w → v ≡ number_in r os i
 step-read r os i at w v p q e = e ∙ ap₂ (field os) p q ∙ sym (number_is r os i)
 
-pub step_end : (r : Range) (i at w : ℕ) → 1 ≤ i → at ≡ start_of r + before (width_of r) (i - 1) → w ≡ width (width_of r) i → at + w ≡ start_of r + before (width_of r) i
-step_end r zero at w h p q = absurd (omega arith)
-step_end r (suc k) at w h p q = let t : suc k - 1 ≡ k = omega arith in omega (arith, before_more (width_of r) k, ap (before (width_of r)) t)
+pub step_on : (r : Range) (k at w : ℕ) → at ≡ start_of r + before (width_of r) k → w ≡ width (width_of r) (k + 1) → at + w ≡ start_of r + before (width_of r) (k + 1)
+step_on r k at w p q = rw (p, q, add-one k, before_more (width_of r) k) (add_assoc (start_of r) (before (width_of r) k) (width (width_of r) (suc k)))
 
 pub step-place : (r : Range) (i at w : ℕ) → 1 ≤ i → at ≡ start_of r + before (width_of r) (i - 1) → w ≡ width (width_of r) i → at + w ≡ start_of r + before (width_of r) (i + 1 - 1)
-step-place r i at w h p q = let t : i ≡ i + 1 - 1 = omega arith in step_end r i at w h p q ∙ ap (λ n. start_of r + before (width_of r) n) t
+step-place r i at w h p q =
+    let e : i ≡ i - 1 + 1 = omega arith in
+    let t : i - 1 + 1 ≡ i + 1 - 1 = omega arith in
+    step_on r (i - 1) at w p (q ∙ ap (width (width_of r)) e) ∙ ap (λ n. start_of r + before (width_of r) n) t
+
+-- where a number is left, the place is small
+pub next-near : (r : Range) (os : List ℕ) (i m at base : ℕ) → Next r os i m at base → 1 ≤ m → at < 2 ^ 16
+next-near r os i m at base s h = omega (arith, s.place, place-near r (i - 1) (omega (arith, slots_small r (length os), s.room)))
+
+-- the numbers from one on, as a list
+pub numbers-none : (r : Range) (os : List ℕ) (i m : ℕ) → m ≡ 0 → numbers_from r os i m ≡ []
+unfolding numbers_from
+numbers-none r os i zero e = refl
+numbers-none r os i (suc m) e = absurd (omega arith)
+
+pub numbers-more : (r : Range) (os : List ℕ) (i m : ℕ) → 1 ≤ m → numbers_from r os i m ≡ number_in r os i ∷ numbers_from r os (i + 1) (m - 1)
+unfolding numbers_from
+numbers-more r os i zero h = absurd (omega arith)
+numbers-more r os i (suc m) h = let e : m ≡ suc m - 1 = omega arith in ap (λ n. number_in r os i ∷ numbers_from r os (i + 1) n) e
+
+pub length-numbers : (r : Range) (os : List ℕ) (i m : ℕ) → length (numbers_from r os i m) ≡ m
+unfolding numbers_from
+length-numbers r os i zero = refl
+length-numbers r os i (suc m) = omega (arith, length-numbers r os (i + 1) m)
+
+pub numbers_at : (r : Range) (os : List ℕ) (i m k : ℕ) → k < m → get_or (numbers_from r os i m) k 0 ≡ number_in r os (i + k)
+unfolding numbers_from
+numbers_at r os i zero k l = absurd (omega arith)
+numbers_at r os i (suc m) zero l = ap (number_in r os) (sym (add-zero i))
+numbers_at r os i (suc m) (suc k) l = let e : i + 1 + k ≡ i + suc k = omega arith in numbers_at r os (i + 1) m k (omega arith) ∙ ap (number_in r os) e
+
+-- the first of them, and the others
+pub record Front (r : Range) (os : List ℕ) (i m v : ℕ) (rest : List ℕ) : Type 0 where
+  pub some : 1 ≤ m
+  pub first : v ≡ number_in r os i
+  pub others : rest ≡ numbers_from r os (i + 1) (m - 1)
+
+pub front_is : (r : Range) (os : List ℕ) (i m v : ℕ) (rest : List ℕ) → numbers_from r os i m ≡ v ∷ rest → Front r os i m v rest
+unfolding numbers_from
+front_is r os i zero v rest e = absurd (cc)
+front_is r os i (suc m) v rest e =
+    let t : m ≡ suc m - 1 = omega arith in
+    let f : v ≡ number_in r os i = cc in
+    let o : rest ≡ numbers_from r os (i + 1) m = cc in
+    record { some = omega arith; first = f; others = o ∙ ap (numbers_from r os (i + 1)) t }
+
+pub none-left : (r : Range) (os : List ℕ) (i m : ℕ) → numbers_from r os i m ≡ [] → m ≡ 0
+none-left r os i m e = sym (length-numbers r os i m) ∙ ap length e
+
+-- whether all of some numbers are null
+pub all-null : (b : Bool) (xs : List ℕ) → MatchBool b (AllWithin (λ w. w ≡ 0) xs 0 (length xs)) ((k : ℕ) × (k < length xs) × HoldsAt (λ w. w ≡ 0 → ⊥) xs k) → b ≡ list_all (λ w. eqb w 0) xs
+all-null true xs h = sym (list_all-from_AllPass (λ w. eqb w 0) xs (λ k d l. eq-eqb (get_or xs k d) 0 (h k d (omega arith) l)))
+all-null false xs h = sym (list_all_at (λ w. eqb w 0) xs h.0 0 h.1 (ne_eqb (get_or xs h.0 0) 0 (h.2 0)))
+
+some-not : (p : ℕ → Bool) (xs : List ℕ) → list_all p xs ≡ false → (k : ℕ) × (k < length xs) × (p (get_or xs k 0) ≡ false)
+some-not p [] e = absurd (both_ways true e refl)
+some-not p (x ∷ xs) e =
+    ⊎_elim (λ f. (0, omega arith, f)) (λ f. let t = some-not p xs f in (suc t.0, omega (arith, t.1), t.2)) (and_cases (p x) (list_all p xs) e)
 
 -- a table with numbers put in
 pub length-filled : (W : ℕ → ℕ) (n : ℕ) (xs : List ℕ) → length (filled W n xs) ≡ length xs
@@ -52,13 +113,11 @@ unfolding filled
 filled_none W xs = refl
 
 -- one number more
-pub filled_more : (W : ℕ → ℕ) (i v : ℕ) (xs ys : List ℕ) → 1 ≤ i → ys ≡ filled W (i - 1) xs → v ≡ W i → set ys i v ≡ filled W (i + 1 - 1) xs
+pub filled_more : (W : ℕ → ℕ) (n v : ℕ) (xs ys : List ℕ) → ys ≡ filled W n xs → v ≡ W (n + 1) → set ys (n + 1) v ≡ filled W (n + 1) xs
 unfolding filled
-filled_more W zero v xs ys h e q = absurd (omega arith)
-filled_more W (suc k) v xs ys h e q =
-    let s : suc k + 1 - 1 ≡ suc k = omega arith in
-    let t : suc k - 1 ≡ k = omega arith in
-    ap₂ (λ a b. set a (suc k) b) (e ∙ ap (λ n. filled W n xs) t) q ∙ sym (ap (λ n. filled W n xs) s)
+filled_more W n v xs ys e q =
+    ap (λ us. set us (n + 1) v) e
+    ∙ subst (λ k. set (filled W n xs) k v ≡ filled W k xs) (sym (add-one n)) (ap (λ x. set (filled W n xs) (suc n) x) (q ∙ ap W (add-one n)))
 
 module _ (r : Range) (os : List ℕ) where
   null_is : (k : ℕ) → is_null r os k ≡ true → number_in r os (suc k) ≡ 0
@@ -111,18 +170,40 @@ module _ (r : Range) (os : List ℕ) where
           (and_from (ltb (i - 1) (j - 1)) (not (is_null r os (j - 1))) (lt-ltb (i - 1) (j - 1) (omega arith)) (not_from_false (is_null r os (j - 1)) (not_null (j - 1) (λ z. f (sym (at_index j (omega arith)) ∙ z))))))
       go (Some k) e = ap (λ m. Err (NumberAfterNull m)) (sym (counted i a))
 
+  -- n numbers stand before the first null: the answer by those behind it
+  pub behind-null : (n m : ℕ) → n + 1 + m ≡ slots_in r os → (if list_all (λ w. eqb w 0) (numbers_from r os (n + 1 + 1) m) then Ok n else Err (NumberAfterNull (suc n))) ≡ after_null n (later_one r os n)
+  behind-null n m e =
+      let rest = numbers_from r os (n + 1 + 1) m in
+      let t : n + 1 - 1 ≡ n = omega arith in
+      ⊎_elim
+      (λ yes. cond-true (list_all (λ w. eqb w 0) rest) (Ok n) (Err (NumberAfterNull (suc n))) yes
+      ∙ subst (λ k. Ok k ≡ after_null k (later_one r os k)) t
+      (later-none (n + 1) (omega arith)
+      (λ j a b.
+      let i : n + 1 + 1 + (j - (n + 1 + 1)) ≡ j = omega arith in
+      ap (number_in r os) (sym i) ∙ sym (numbers_at r os (n + 1 + 1) m (j - (n + 1 + 1)) (omega arith))
+      ∙ eqb-true (get_or rest (j - (n + 1 + 1)) 0) 0 (AllPass-from_list_all (λ w. eqb w 0) rest yes (j - (n + 1 + 1)) 0 (omega (arith, length-numbers r os (n + 1 + 1) m))))))
+      (λ no. let x = some-not (λ w. eqb w 0) rest no in
+      let below : x.0 < m = omega (arith, x.1, length-numbers r os (n + 1 + 1) m) in
+      cond-false (list_all (λ w. eqb w 0) rest) (Ok n) (Err (NumberAfterNull (suc n))) no
+      ∙ ap (λ k. Err (NumberAfterNull k)) (sym (add-one n))
+      ∙ subst (λ k. Err (NumberAfterNull (n + 1)) ≡ after_null k (later_one r os k)) t
+      (later-some (n + 1) (n + 1 + 1 + x.0) (omega arith) (omega arith) (omega arith)
+      (λ z. eqb-false (get_or rest x.0 0) 0 x.2 (numbers_at r os (n + 1 + 1) m x.0 below ∙ z))))
+      (cases_Bool (list_all (λ w. eqb w 0) rest))
+
   -- the answer by the first null
-  pub unpacked-first : (i : ℕ) → first_null r os ≡ Some (i - 1) → after_null (i - 1) (later_one r os (i - 1)) ≡ unpacked r os
+  pub unpacked-first : (k : ℕ) → first_null r os ≡ Some k → after_null k (later_one r os k) ≡ unpacked r os
   unfolding unpacked
-  unpacked-first i e = ap (read_to r os) (sym e)
+  unpacked-first k e = ap (read_to r os) (sym e)
 
   pub unpacked-all : first_null r os ≡ None → Ok (slots_in r os) ≡ unpacked r os
   unfolding unpacked
   unpacked-all e = ap (read_to r os) (sym e)
 
-  pub leading-first : (i : ℕ) → first_null r os ≡ Some (i - 1) → i - 1 ≡ leading r os
+  pub leading-first : (k : ℕ) → first_null r os ≡ Some k → k ≡ leading r os
   unfolding leading
-  leading-first i e = ap (count_to (slots_in r os)) (sym e)
+  leading-first k e = ap (count_to (slots_in r os)) (sym e)
 
   pub leading-all : first_null r os ≡ None → slots_in r os ≡ leading r os
   unfolding leading

@@ -1,12 +1,12 @@
 -- Bits that are put into octets.
 use Rattle.std.proofs.Common.{◌≡◌, ℕ, suc, ◌+◌, ◌-◌, ◌*◌, ◌/◌, ◌%◌, ◌^◌, ◌<◌, ◌≤◌, Bool, true, false, ◌&&◌, ◌||◌, ltb, leb, ◌⊎◌, List, length, get_or, set, sym, refl, ap, ◌∙◌, subst, ap₂, inl, inr, ⊎_elim, arith}
 use lib.Bits.{bit_or, bit_and}
-use Rattle.std.proofs.lemmas.Nat.{shl_below, shr_le, and_mask, or_lt}
-use Rattle.std.proofs.lemmas.List.{get_or-set_same, get_or-set_other, set_past}
+use Rattle.std.proofs.lemmas.Nat.{shl_below, shr_le, and_mask}
+use Rattle.std.proofs.lemmas.List.{get_or-set_same, get_or-set_other}
 use Rattle.std.proofs.lemmas.Bool.{cases_lt, cases_eq, le-leb, lt-leb, lt-ltb, le-ltb, and_left, and_right}
 use Rattle.bits.specs.Bits.{bit}
 use Rattle.bits.proofs.Digits.{bit-or, bit_shr, bit_mod, bit_past, bit_shl_high, bit_shl_low}
-use Rattle.packing.specs.Fields.{Octets, bit_at}
+use Rattle.packing.specs.Fields.{bit_at}
 use Rattle.packing.specs.Writing.{stands}
 use Rattle.packing.proofs.Fields.{at_split}
 
@@ -69,17 +69,6 @@ or_at os k b x h =
     ∙ sym (at_split os x) ∙ sym (or_none (bit_at os x))
     ∙ ap (λ t. bit_at os x || t) (sym (⊎_elim (stands-before (8 * k) 8 b x) (⊎_elim (λ m. absurd (other (omega (arith, m.0, m.1)))) (stands-behind (8 * k) 8 b x)) (parts (8 * k) 8 x))))
     (cases_eq (x / 8) k)
-
-pub or_octets : (os : List ℕ) (k b : ℕ) → Octets os → b < 256 → Octets (set os k (bit_or (get_or os k 0) b))
-or_octets os k b f h j =
-    let v = bit_or (get_or os k 0) b in
-    ⊎_elim
-    (λ same. ⊎_elim
-    (λ l. let e : get_or (set os k v) j 0 ≡ v = ap (λ i. get_or (set os k v) i 0) same ∙ get_or-set_same os k v 0 l in omega (arith, or_lt 8 (get_or os k 0) b (f k) h))
-    (λ l. let e : get_or (set os k v) j 0 ≡ get_or os j 0 = ap (λ us. get_or us j 0) (set_past os k v l) in omega (arith, f j))
-    (cases_lt k (length os)))
-    (λ other. let e : get_or (set os k v) j 0 ≡ get_or os j 0 = get_or-set_other os k j v 0 other in omega (arith, f j))
-    (cases_eq j k)
 
 pub or_past : (os : List ℕ) (k b x : ℕ) → x < 8 * k → bit_at os x ≡ (bit_at os x || stands (8 * k) 8 b x)
 or_past os k b x h = sym (ap (λ t. bit_at os x || t) (stands-before (8 * k) 8 b x h) ∙ or_none (bit_at os x))

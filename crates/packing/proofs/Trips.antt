@@ -137,8 +137,8 @@ module _ (r : Range) (h : ℕ) (W : ℕ → ℕ) (n len : ℕ) (os : List ℕ) (
         let e : n + 1 - 1 ≡ n = omega arith in
         ⊎_elim
         (λ l. record {
-          answer = sym (unpacked-first r os (n + 1) (ended l)) ∙ sym (later-none r os (n + 1) (omega arith) (λ j a b. later-all j (omega arith))) ∙ ap Ok e;
-          count = sym (leading-first r os (n + 1) (ended l)) ∙ e;
+          answer = sym (unpacked-first r os (n + 1 - 1) (ended l)) ∙ sym (later-none r os (n + 1) (omega arith) (λ j a b. later-all j (omega arith))) ∙ ap Ok e;
+          count = sym (leading-first r os (n + 1 - 1) (ended l)) ∙ e;
           nulls = later-all;
         })
         (λ l. let s : n ≡ slots_of r len = omega arith in

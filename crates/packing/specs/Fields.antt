@@ -1,5 +1,5 @@
 -- Numbers that follow one another in octets, highest bit first.
-use Rattle.std.specs.Prelude.{◌≡◌, ℕ, zero, suc, ◌+◌, ◌-◌, ◌*◌, ◌/◌, ◌%◌, ◌^◌, ◌<◌, ◌≤◌, Bool, cond, List, nat_le, slice_index}
+use Rattle.std.specs.Prelude.{ℕ, zero, suc, ◌+◌, ◌-◌, ◌*◌, ◌/◌, ◌%◌, ◌^◌, ◌<◌, ◌≤◌, Bool, cond, List, nat_le, slice_index}
 use Rattle.bits.specs.Bits.{bit}
 
 -- each is below 256
@@ -14,11 +14,6 @@ bit_at os p = bit (slice_index os (p / 8)) (7 - p % 8)
 unfoldable pub field : List ℕ → ℕ → ℕ → ℕ
 field os p zero = 0
 field os p (suc w) = 2 * field os p w + cond (bit_at os (p + w)) 1 0
-
--- v is the 64 bits from the position base on, which is not behind p
-pub record Shows (os : List ℕ) (base v p : ℕ) : Type 0 where
-  pub bits : v ≡ field os base 64
-  pub before : base ≤ p
 
 -- of the levels below k the greatest l with 2 ^ l ≤ i
 unfoldable pub level : ℕ → ℕ → ℕ

@@ -1,20 +1,32 @@
 -- What the octets of a range are read as.
-use Rattle.std.specs.Prelude.{◌≡◌, ℕ, zero, suc, ◌<◌, ◌≤◌, Bool, not, ◌&&◌, List, length, Some, None, Ok, Err, Option, Result, ◌==◌, ◌≢◌, nat_lt, slice_index, slice_set}
+use Rattle.std.specs.Prelude.{◌≡◌, ℕ, zero, suc, ◌+◌, ◌-◌, ◌<◌, ◌≤◌, Bool, not, ◌&&◌, List, [], ◌∷◌, length, Some, None, Ok, Err, Option, Result, ◌==◌, ◌≢◌, nat_lt, slice_index, slice_set}
 use Rattle.bits.specs.Lowest.{lowest}
 use Rattle.faults.specs.declared.FormatFault.{FormatFault}
 use Rattle.faults.specs.declared.FormatFault.TheVariants.{Length, NumberAfterNull}
 use Rattle.packing.specs.declared.Range.{Range}
 use Rattle.packing.specs.Ranges.{width_of, start_of}
-use Rattle.packing.specs.Fields.{number_at}
+use Rattle.packing.specs.Fields.{before, number_at}
 use Rattle.packing.specs.Slots.{slots_of}
 
 -- W(i) of the octets of a range
 abbrev pub number_in : Range → List ℕ → ℕ → ℕ
 number_in r os i = number_at (width_of r) (start_of r) os i
 
+-- W(i), W(i + 1), .. of the octets of a range, so many
+unfoldable pub numbers_from : Range → List ℕ → ℕ → ℕ → List ℕ
+numbers_from r os i zero = []
+numbers_from r os i (suc m) = number_in r os i ∷ numbers_from r os (i + 1) m
+
 -- how many numbers the octets of a range have room for
 abbrev pub slots_in : Range → List ℕ → ℕ
 slots_in r os = slots_of r (length os)
+
+-- W(i) is the next number of some octets, of which m are left: its place, and that of a window, which is not behind it
+pub record Next (r : Range) (os : List ℕ) (i m at base : ℕ) : Type 0 where
+  pub first : 1 ≤ i
+  pub room : i + m ≡ suc (slots_in r os)
+  pub place : at ≡ start_of r + before (width_of r) (i - 1)
+  pub shown : base ≤ at
 
 -- W(k + 1) is null: a test over 0, 1, .. for `lowest`
 unfoldable pub is_null : Range → List ℕ → ℕ → Bool

@@ -6,7 +6,6 @@
 ghost use Rattle.std.specs.Prelude.{◌≡◌, ◌^◌, ◌<◌, ◌≤◌};
 ghost use Rattle.packing.specs.Ranges.{width_of, start_of};
 ghost use Rattle.packing.specs.Fields.{width};
-ghost use Rattle.packing.specs.Trips.{Again, Behind, Heads, Levels, Only, Reads, Trip};
 
 mod reading;
 mod tables;
@@ -16,7 +15,7 @@ pub use reading::{flag_of, origin_of, unpack};
 pub use tables::slots;
 pub use writing::{head, pack};
 
-#[derive(Clone, Copy)]
+#[derive(Clone, Copy, PartialEq, Eq, Debug)]
 pub enum Range {
     R1024,
     R512,
@@ -24,8 +23,13 @@ pub enum Range {
     R128,
 }
 
-// The longest contents of any range.
-const LONGEST: usize = 130;
+// How many bits a number takes.
+#[derive(Clone, Copy)]
+struct Width {
+    bits: u32,
+    ghost some: { 1 ≤ bits },
+    ghost narrow: { bits ≤ 10 },
+}
 
 impl Range {
     // The width of W(1).
@@ -49,27 +53,15 @@ impl Range {
             Range::R512 | Range::R256 | Range::R128 => 17,
         }
     }
-}
 
-// The width of W(i).
-fn width_at(range: Range, i: usize) -> u32
-    requires first { 1 ≤ i }
-    requires inside { i < 2 ^ width_of range }
-    ensures value { result ≡ width (width_of range) i }
-    ensures bounds { (1 ≤ result) × (result ≤ 10) }
-{
-    range.top_width() - i.ilog2()
-}
-
-// What is written is read again, as the same numbers, and only octets that are written so have them in that way.
-pub fn packing_stands() -> u8
-    ensures levels { Levels }
-    ensures trip { Trip }
-    ensures only { Only }
-    ensures reads { Reads }
-    ensures again { Again }
-    ensures behind { Behind }
-    ensures heads { Heads }
-{
-    0
+    // The width of W(i).
+    fn width_at(self, i: usize) -> Width
+        requires first { 1 ≤ i }
+        requires inside { i < 2 ^ width_of self }
+        ensures { result.bits ≡ width (width_of self) i }
+    {
+        Width {
+            bits: self.top_width() - i.ilog2(),
+        }
+    }
 }

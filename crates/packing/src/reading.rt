@@ -1,39 +1,31 @@
 // Reading: numbers out of octets.
-ghost use Rattle.std.specs.Prelude.{◌≡◌, ◌+◌, ◌-◌, ◌*◌, ◌/◌, ◌%◌, ◌^◌, ◌<◌, ◌≤◌, ◌==◌, slice_index};
-ghost use Rattle.packing.specs.Ranges.{width_of, start_of};
-ghost use Rattle.packing.specs.Fields.{Shows, before, field};
-ghost use Rattle.packing.specs.Reading.{Unpacked, after_null, filled, later_one, leading, number_in, slots_in, unpacked};
+ghost use Rattle.std.specs.Prelude.{◌≡◌, suc, ◌+◌, ◌*◌, ◌/◌, ◌^◌, ◌<◌, ◌≤◌, ◌==◌, if◌then◌else◌, slice_index};
+ghost use Rattle.std.specs.Iterator.{YieldsFirst, item_count};
+ghost use Rattle.std.specs.List.{list_all};
+ghost use Rattle.packing.specs.Fields.{field};
+ghost use Rattle.packing.specs.Reading.{Unpacked, filled, leading, number_in, numbers_from, slots_in, unpacked};
+ghost use Rattle.packing.specs.Trips.{Again, Behind, Reads};
 
-use crate::{Range, slots, width_at};
+use crate::{Range, Width, slots};
 use faults::FormatFault;
+use std::marker::Model;
 
-// How many bits a reader holds.
+// How many bits a window shows.
 const WINDOW: usize = 64;
 
 // An octet, or 0 past the end.
-fn octet(contents: &[u8], k: usize) -> u8
-    ensures { result ≡ slice_index contents.now k }
+fn octet(octets: &[u8], k: usize) -> u8
+    ensures { result ≡ slice_index octets.now k }
 {
-    if k < contents.len() { contents[k] } else { 0 }
+    octets.get(k).copied().unwrap_or(0)
 }
 
-// Eight octets as one number.
-fn window(contents: &[u8], k: usize) -> u64
-    requires { k < 2 ^ 32 }
-    ensures { result ≡ field contents.now (8 * k) 64 }
+// The eight octets from that of a position on, as one number, where some may be past the end.
+fn last_word(contents: &[u8], at: usize) -> u64
+    ensures { result ≡ field contents.now (8 * (at / 8)) 64 }
 {
-    if k + 8 <= contents.len() {
-        return u64::from_be_bytes([
-            contents[k],
-            contents[k + 1],
-            contents[k + 2],
-            contents[k + 3],
-            contents[k + 4],
-            contents[k + 5],
-            contents[k + 6],
-            contents[k + 7],
-        ]);
-    }
+    let k = at / 8;
+    // an array that they are copied to is slower: it costs a quarter of a short reading
     u64::from_be_bytes([
         octet(contents, k),
         octet(contents, k + 1),
@@ -46,150 +38,185 @@ fn window(contents: &[u8], k: usize) -> u64
     ])
 }
 
-// The number of `wide` bits that stand in a window behind its first `skip`.
-fn cut(bits: u64, skip: usize, wide: u32) -> u16
-    requires within { skip + wide ≤ 64 }
-    requires some { 1 ≤ wide }
-    requires narrow { wide ≤ 10 }
-    ensures { result ≡ (bits * 2 ^ skip) % 2 ^ 64 / 2 ^ (64 - wide) }
+// The same; past the end they count 0.
+fn word(contents: &[u8], at: usize) -> u64
+    ensures { result ≡ field contents.now (8 * (at / 8)) 64 }
 {
-    ((bits << skip) >> (64 - wide)) as u16
+    let k = at / 8;
+    let Some(octets) = contents.get(k..k + 8) else {
+        return last_word(contents, at);
+    };
+    let mut eight = [0; 8];
+    eight.copy_from_slice(octets);
+    u64::from_be_bytes(eight)
 }
 
-// The number whose bits, ten at most, stand from a position on.
-fn field_at(contents: &[u8], at: usize, wide: u32) -> u16
-    requires near { at < 2 ^ 32 }
-    requires some { 1 ≤ wide }
-    requires narrow { wide ≤ 10 }
-    ensures { result ≡ field contents.now at wide }
-{
-    cut(window(contents, at / 8), at % 8, wide)
-}
-
-// Numbers read one after another: the place of the next one, and the 64 bits from a position on, which is not behind that place.
+// The 64 bits of some octets from a position on.
 #[derive(Clone, Copy)]
-struct Reader {
-    at: usize,
+struct Window<'a> {
+    contents: &'a [u8],
     base: usize,
     bits: u64,
+    ghost shows: { bits ≡ field contents.now base 64 },
 }
 
-// The reader with bits enough for a number that ends at a position.
-fn covering(contents: &[u8], reader: Reader, end: usize) -> Reader
-    requires near { reader.at < 2 ^ 32 }
-    requires shows { Shows contents.now reader.base reader.bits reader.at }
-    requires reach { end ≤ reader.at + 10 }
-    ensures place { result.at ≡ reader.at }
-    ensures shows { Shows contents.now result.base result.bits result.at }
-    ensures enough { end ≤ result.base + 64 }
-{
-    if end <= reader.base + WINDOW {
-        return reader;
+impl<'a> Window<'a> {
+    // The window whose first octet has a position.
+    fn over(contents: &'a [u8], at: usize) -> Window<'a>
+        ensures same { result.contents.now ≡ contents.now }
+        ensures from { result.base ≤ at }
+        ensures near { at < result.base + 8 }
+    {
+        Window {
+            contents,
+            base: 8 * (at / 8),
+            bits: word(contents, at),
+        }
     }
-    let k = reader.at / 8;
-    Reader {
-        at: reader.at,
-        base: 8 * k,
-        bits: window(contents, k),
+
+    // A window with the bits from a position up to another.
+    fn covering(self, at: usize, end: usize) -> Window<'a>
+        requires from { self.base ≤ at }
+        requires near { at < 2 ^ 32 }
+        requires reach { end ≤ at + 10 }
+        ensures same { result.contents.now ≡ self.entry.contents.now }
+        ensures from { result.base ≤ at }
+        ensures enough { end ≤ result.base + 64 }
+    {
+        if end <= self.base + WINDOW {
+            return self;
+        }
+        Window::over(self.contents, at)
+    }
+
+    // The number of a width from a position on.
+    fn number(self, at: usize, wide: Width) -> u16
+        requires from { self.base ≤ at }
+        requires within { at + wide.bits ≤ self.base + 64 }
+        ensures { result ≡ field self.entry.contents.now at wide.bits }
+    {
+        ((self.bits << (at - self.base)) >> (64 - wide.bits)) as u16
     }
 }
 
-// Reads the next number.
-fn take(contents: &[u8], reader: &mut Reader, wide: u32) -> u16
-    requires near { reader.old.at < 2 ^ 32 }
-    requires shows { Shows contents.now reader.old.base reader.old.bits reader.old.at }
-    requires some { 1 ≤ wide }
-    requires narrow { wide ≤ 10 }
-    ensures value { result ≡ field contents.now reader.old.at wide }
-    ensures place { reader.new.at ≡ reader.old.at + wide }
-    ensures shows { Shows contents.now reader.new.base reader.new.bits reader.new.at }
+// The number of a width that stands from a position on.
+fn field_at(contents: &[u8], at: usize, wide: Width) -> u16
+    ensures { result ≡ field contents.now at wide.bits }
 {
-    let end = reader.at + wide as usize;
-    let here = covering(contents, *reader, end);
-    *reader = Reader {
-        at: end,
-        base: here.base,
-        bits: here.bits,
-    };
-    cut(here.bits, here.at - here.base, wide)
+    Window::over(contents, at).number(at, wide)
 }
 
-// W(i) is the first null of `count` numbers, and the reader stands behind it: those before it are read, unless a later one is not null.
-fn behind(
+// The numbers of some octets from W(i) on, of which so many are left: contracts see it as the list of these.
+#[derive(Drop)]
+struct Numbers<'a> {
     range: Range,
-    contents: &[u8],
     i: usize,
-    mut reader: Reader,
-    count: usize,
-) -> Result<usize, FormatFault>
-    requires first { 1 ≤ i }
-    requires inside { i ≤ count }
-    requires few { count < 2 ^ width_of range }
-    requires small { count < 512 }
-    requires present { count ≡ slots_in range contents.now }
-    requires place { reader.at ≡ start_of range + before (width_of range) i }
-    requires shows { Shows contents.now reader.base reader.bits reader.at }
-    ensures { result ≡ after_null (i - 1) (later_one range contents.now (i - 1)) }
-{
-    for j in i + 1..count + 1 {
-        let wide = width_at(range, j);
-        if take(contents, &mut reader, wide) != 0 {
-            return Err(FormatFault::NumberAfterNull(i as u16));
-        }
-    }
-    Ok(i - 1)
+    left: usize,
+    at: usize,
+    window: Window<'a>,
 }
 
-// Reads the numbers, of which `count` are present, up to the first null.
-fn walk(
-    range: Range,
-    contents: &[u8],
-    count: usize,
-    numbers: &mut [u16; 512],
-) -> Result<usize, FormatFault>
-    requires few { count < 2 ^ width_of range }
-    requires small { count < 512 }
-    requires present { count ≡ slots_in range contents.now }
-    ensures value { result ≡ unpacked range contents.now }
-    ensures table { numbers.new ≡ filled (number_in range contents.now) (leading range contents.now) numbers.old }
-    ensures meaning { Unpacked range contents.now numbers.new result }
-{
-    let mut reader = Reader {
-        at: range.start(),
-        base: 0,
-        bits: window(contents, 0),
-    };
-    for i in 1..count + 1 {
-        let wide = width_at(range, i);
-        let number = take(contents, &mut reader, wide);
-        if number == 0 {
-            return behind(range, contents, i, reader, count);
-        }
-        numbers[i] = number;
-    }
-    Ok(count)
+impl<'a> Model for Numbers<'a> {
+    ghost use Rattle.std.specs.Prelude.{ℕ, List};
+    ghost use Rattle.packing.specs.Reading.{Next, numbers_from};
+
+    ghost Value = { List ℕ };
+
+    ghost view = { λ s. numbers_from s.range s.window.contents.now s.i s.left };
+
+    ghost invariant = { λ s. Next s.range s.window.contents.now s.i s.left s.at s.window.base };
 }
 
-// Reads W(1), W(2), .. to the places 1, 2, .. of a table, up to the first null, and says how many there are. The other places stay.
+impl<'a> Numbers<'a> {
+    fn of(range: Range, contents: &'a [u8]) -> Numbers<'a>
+        ensures { result ≡ numbers_from range contents.now 1 (slots_in range contents.now) }
+    {
+        Numbers {
+            range,
+            i: 1,
+            left: slots(range, contents.len()),
+            at: range.start(),
+            window: Window::over(contents, 0),
+        }
+    }
+}
+
+impl<'a> Iterator for Numbers<'a> {
+    type Item = u16;
+
+    ghost next_gives = { YieldsFirst (λ s. s) };
+
+    ghost remaining = { item_count (λ s. s) };
+
+    fn next(&mut self) -> Option<u16> {
+        if self.left == 0 {
+            return None;
+        }
+        let wide = self.range.width_at(self.i);
+        let end = self.at + wide.bits as usize;
+        let window = self.window.covering(self.at, end);
+        let number = window.number(self.at, wide);
+        *self = Numbers {
+            range: self.range,
+            i: self.i + 1,
+            left: self.left - 1,
+            at: end,
+            window,
+        };
+        Some(number)
+    }
+}
+
+fn all_null(mut rest: Numbers) -> bool
+    ensures { result ≡ list_all (λ w. w == 0) rest.entry }
+{
+    rest.all(|number| number == 0)
+}
+
+// The answer where n numbers stand before the first null: they are read, unless a later one is not null.
+fn behind_null(n: u16, rest: Numbers) -> Result<usize, FormatFault>
+    requires { n < 512 }
+    ensures { result ≡ (if list_all (λ w. w == 0) rest.entry then Ok n else Err (FormatFault.NumberAfterNull (suc n))) }
+{
+    if all_null(rest) {
+        return Ok(n as usize);
+    }
+    Err(FormatFault::NumberAfterNull(n + 1))
+}
+
+// Reads W(1), W(2), .. to the places 1, 2, .. of a table, up to the first null, and says how many there are. The other places stay. The
+// table is the caller's, since the library has no memory of its own.
 pub fn unpack(range: Range, contents: &[u8], numbers: &mut [u16; 512]) -> Result<usize, FormatFault>
     ensures value { result ≡ unpacked range contents.now }
     ensures table { numbers.new ≡ filled (number_in range contents.now) (leading range contents.now) numbers.old }
     ensures meaning { Unpacked range contents.now numbers.new result }
+    // what is written is read again, and what is read is written so; the octets before the numbers do not matter
+    ensures reads { Reads }
+    ensures again { Again }
+    ensures behind { Behind }
 {
-    let count = slots(range, contents.len());
-    walk(range, contents, count, numbers)
+    let mut rest = Numbers::of(range, contents);
+    let mut n = 0;
+    while let Some(number) = rest.next() {
+        if number == 0 {
+            return behind_null(n, rest);
+        }
+        n += 1;
+        numbers[n as usize] = number;
+    }
+    Ok(n as usize)
 }
 
 // The ten bits at the positions 7 .. 16: the origin of the ranges 512, 256 and 128.
 pub fn origin_of(contents: &[u8]) -> u16
     ensures { result ≡ field contents.now 7 10 }
 {
-    field_at(contents, 7, 10)
+    field_at(contents, 7, Width { bits: 10 })
 }
 
 // The bit at position 5: F0 of range 1024, whether channel 0 is in the list.
 pub fn flag_of(contents: &[u8]) -> bool
     ensures { result ≡ (field contents.now 5 1 == 1) }
 {
-    field_at(contents, 5, 1) == 1
+    field_at(contents, 5, Width { bits: 1 }) == 1
 }

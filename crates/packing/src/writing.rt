@@ -1,39 +1,29 @@
 // Writing: numbers into octets.
-ghost use Rattle.std.specs.Prelude.{◌≡◌, ℕ, ◌+◌, ◌*◌, ◌%◌, ◌^◌, ◌<◌, ◌≤◌, ◌||◌, ◌++◌, drop, slice_index};
-ghost use Rattle.packing.specs.Ranges.{longest, start_of};
+ghost use Rattle.std.specs.Prelude.{◌≡◌, ℕ, ◌+◌, ◌*◌, ◌%◌, ◌-◌, ◌^◌, ◌<◌, ◌≤◌, ◌||◌, ◌++◌, drop, length, slice_index};
+ghost use Rattle.packing.specs.Ranges.{start_of};
 ghost use Rattle.packing.specs.Fields.{Octets, bit_at};
 ghost use Rattle.packing.specs.Writing.{Packable, head_of, packed, stands, tail_of};
+ghost use Rattle.packing.specs.Trips.{Heads, Levels, Only, Trip};
 
-use crate::{LONGEST, Range, width_at};
-
-// Octets 0 up to len put to 0.
-fn clear(out: &mut [u8; 130], len: usize)
-    requires { len ≤ longest }
-    ensures zeros { (k : ℕ) → k < len → slice_index out.new k ≡ 0 }
-    ensures rest { drop len out.new ≡ drop len out.old }
-{
-    for k in 0..len {
-        out[k] = 0;
-    }
-}
+use crate::Range;
 
 // Puts the bits of an octet to 1 that are 1 in `bits`; past the end there is none.
-fn or_octet(out: &mut [u8; 130], k: usize, bits: u8)
+fn or_octet(out: &mut [u8], k: usize, bits: u8)
     requires { Octets out.old }
-    ensures bits { (x : ℕ) → x < 8 * longest → bit_at out.new x ≡ (bit_at out.old x || stands (8 * k) 8 bits x) }
+    ensures bits { (x : ℕ) → x < 8 * length out.old → bit_at out.new x ≡ (bit_at out.old x || stands (8 * k) 8 bits x) }
     ensures octets { Octets out.new }
 {
-    if k < LONGEST {
+    // by an index: of the octets behind `get_mut` a proof knows no more than how many they are
+    if k < out.len() {
         out[k] |= bits;
     }
 }
 
 // Puts the bits of a number, from a position on, to 1 where they are 1: they lie within three octets.
-fn put(out: &mut [u8; 130], at: usize, wide: u32, number: u32)
-    requires near { at < 2 ^ 32 }
+fn put(out: &mut [u8], at: usize, wide: u32, number: u32)
     requires within { at % 8 + wide ≤ 24 }
     requires narrow { number < 2 ^ wide }
-    ensures bits { (x : ℕ) → x < 8 * longest → bit_at out.new x ≡ (bit_at out.old x || stands at wide number x) }
+    ensures bits { (x : ℕ) → x < 8 * length out.old → bit_at out.new x ≡ (bit_at out.old x || stands at wide number x) }
     ensures octets { Octets out.new }
 {
     let k = at / 8;
@@ -43,23 +33,23 @@ fn put(out: &mut [u8; 130], at: usize, wide: u32, number: u32)
     or_octet(out, k + 2, (window & 255) as u8);
 }
 
-// Writes len octets, which are 0.
-fn lay(range: Range, head: u32, numbers: &[u16; 512], n: usize, len: usize, out: &mut [u8; 130])
-    requires packable { Packable range head (λ i. slice_index numbers.now i) n len }
-    requires zeros { (k : ℕ) → k < len → slice_index out.old k ≡ 0 }
-    ensures { out.new ≡ packed range head (λ i. slice_index numbers.now i) n len ++ drop len out.old }
+// Writes octets, which are 0: `head` before the first position, and the numbers W(1), W(2), .. from there on.
+fn lay(range: Range, head: u32, numbers: &[u16], out: &mut [u8])
+    requires packable { Packable range head (λ i. slice_index numbers.now (i - 1)) (length numbers.now) (length out.old) }
+    requires zeros { (k : ℕ) → k < length out.old → slice_index out.old k ≡ 0 }
+    ensures { out.new ≡ packed range head (λ i. slice_index numbers.now (i - 1)) (length numbers.now) (length out.old) }
 {
     let mut at = range.start();
     put(out, 0, at as u32, head);
-    let end = n + 1;
-    for i in 1..end {
-        let wide = width_at(range, i);
-        put(out, at, wide, numbers[i] as u32);
+    for (k, number) in numbers.iter().enumerate() {
+        let wide = range.width_at(k + 1).bits;
+        put(out, at, wide, *number as u32);
         at += wide as usize;
     }
 }
 
 // Writes len octets: `head` before the first position, W(1) .. W(n), which stand at the places 1 .. n of a table, and zeros behind them.
+// The octets and the table are the caller's, with a length beside each, since the library has no memory of its own.
 pub fn pack(
     range: Range,
     head: u32,
@@ -69,10 +59,17 @@ pub fn pack(
     out: &mut [u8; 130],
 )
     requires { Packable range head (λ i. slice_index numbers.now i) n len }
-    ensures { out.new ≡ packed range head (λ i. slice_index numbers.now i) n len ++ drop len out.old }
+    ensures value { out.new ≡ packed range head (λ i. slice_index numbers.now i) n len ++ drop len out.old }
+    // the octets written hold the numbers, with the widths that are meant, and are the only ones that do
+    ensures trip { Trip }
+    ensures levels { Levels }
+    ensures only { Only }
+    // and the head is read from them again
+    ensures heads { Heads }
 {
-    clear(out, len);
-    lay(range, head, numbers, n, len, out);
+    let octets = &mut out[..len];
+    octets.fill(0);
+    lay(range, head, &numbers[1..n + 1], octets);
 }
 
 // What stands before W(1): the mark of the range, and behind it the origin, or 0 or 1 for F0 in range 1024.

@@ -1,5 +1,5 @@
 -- The places of a table that a node and the two parts below it take.
-use Rattle.std.proofs.Common.{◌≡◌, ℕ, ◌+◌, ◌-◌, ◌*◌, ◌/◌, ◌<◌, ◌≤◌, List, length, get_or, set, sym, ap, ◌∙◌, subst, inl, inr, mul-le-mul_right, mul_assoc, add-mul, mul-lt-mul_of_pos_right, one-mul, arith}
+use Rattle.std.proofs.Common.{◌≡◌, ℕ, ◌+◌, ◌-◌, ◌*◌, ◌/◌, ◌<◌, ◌≤◌, List, length, get_or, set, sym, ap, ◌∙◌, inl, inr, mul-le-mul_right, mul_assoc, add-mul, mul-lt-mul_of_pos_right, one-mul, arith}
 use Rattle.std.proofs.lemmas.List.{get_or-set_same, get_or-set_other}
 use Rattle.tree.proofs.Circle.{le_or}
 use Rattle.tree.proofs.Trip.{at-root, at_left, at_right, placed}
@@ -24,10 +24,6 @@ module _ (s r : ℕ) where
     ]
     | inr y ↦ absurd (omega (arith, mul-lt-mul_of_pos_right y h))
   ]
-
--- what holds of equal strides and rests
-pub moved : (P : ℕ → ℕ → Type 0) (a b s r : ℕ) → a ≡ s → b ≡ r → P a b → P s r
-moved P a b s r ea eb h = subst (λ x. P x r) ea (subst (P a) eb h)
 
 -- the places of the parts are within those of the whole
 module _ (n s r b : ℕ) (some : 1 ≤ n) (room : n * s + r < b) where
@@ -94,6 +90,3 @@ module _ (n s r p : ℕ) (only : n ≡ 1) (t0 : List ℕ) (within : s + r < leng
       ap (λ x. get_or t1 (x * s + r) 0) e
       ∙ (ap (λ x. get_or t1 x 0) (sym (spot-root s r))
       ∙ (ap (λ t. get_or t (s + r) 0) e1 ∙ (get_or-set_same t0 (s + r) p 0 within ∙ (sym w1 ∙ ap W (sym e)))))
-
-  pub one_beside : Beside t0 t1 n s r
-  one_beside i e = ap (λ t. get_or t i 0) e1 ∙ get_or-set_other t0 (s + r) i p 0 (λ q. e 1 (omega arith) (omega arith) (q ∙ spot-root s r))

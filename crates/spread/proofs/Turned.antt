@@ -7,7 +7,7 @@ use Rattle.tree.proofs.Circle.{le_or, tally_le}
 use Rattle.tree.proofs.Same.{same-stands}
 use Rattle.tree.proofs.Trip.{written-left, written-right}
 use Rattle.spread.specs.Members.{among, Listed}
-use Rattle.spread.specs.Steps.{turn, splits, ahead, Parted}
+use Rattle.spread.specs.Steps.{around, turn, splits, ahead, Parted, Halves}
 use Rattle.spread.proofs.Counts.{among-at, among-has, bool_same}
 use Rattle.spread.proofs.Rounds.{Lists, lists-count, Splits, pivot-at, some-splits, right-lists, left-lists}
 
@@ -196,40 +196,29 @@ module _ (m j : ℕ) (xs ys : List ℕ) (s : Listed m xs) (in-j : j < length xs)
         left-same = part_among (left h (among xs) (get_or xs j 0)) h (length xs - 1 - k) (λ i. turn m xs (suc (j + k + i)) - get_or xs j 0 - h) lefts us same left-new
 
 -- All of that, of the two parts rs and ls of a list that was turned to its pivot at j
-
-abbrev pub Renumbered : ℕ → ℕ → ℕ → List ℕ → List ℕ → Type 0
-Renumbered m p b rs us = (i : ℕ) → i < length rs → get_or us i 0 ≡ ahead m p (get_or rs i 0) - b
-
-pub record Halves (m j h : ℕ) (xs rs ls : List ℕ) : Type 0 where
-  pub rhigh : (i : ℕ) → i < length rs → get_or rs i 0 ≤ m
-  pub lhigh : (i : ℕ) → i < length ls → get_or ls i 0 ≤ m
-  pub lfar : (i : ℕ) → i < length ls → h ≤ ahead m (get_or xs j 0) (get_or ls i 0)
-  pub parted :
-      (us vs : List ℕ) → length us ≡ length rs → length vs ≡ length ls → Renumbered m (get_or xs j 0) 0 rs us → Renumbered m (get_or xs j 0) h ls vs →
-      Parted h (get_or xs j 0) xs us vs
-
 pub halves :
-    (m j h : ℕ) (xs ys front others rs ls : List ℕ) → Listed m xs → m ≡ suc (h + h) → j < length xs → T (splits m h xs ((length xs - 1) / 2) j) →
+    (h j : ℕ) (xs ys front others rs ls : List ℕ) → Listed (around h) xs → j < length xs → T (splits (around h) h xs ((length xs - 1) / 2) j) →
     length ys ≡ length xs →
     ((k : ℕ) (d : ℕ) → k + j < length xs → get_or ys k d ≡ get_or xs (k + j) d) →
     ((k : ℕ) (d : ℕ) → length xs ≤ k + j → k < length xs → get_or ys k d ≡ get_or xs (k + j - length xs) d) →
     ys ≡ front ++ others → length front ≡ 1 → length others + 1 ≡ length ys →
     others ≡ rs ++ ls → length rs ≡ (length xs - 1) / 2 → length ls + (length xs - 1) / 2 ≡ length others →
-    Halves m j h xs rs ls
-halves m j h xs ys front others rs ls s odd in-j y len near far cut size rest cut2 size2 rest2 =
+    Halves h j xs rs ls
+halves h j xs ys front others rs ls s in-j y len near far cut size rest cut2 size2 rest2 =
+    let m : ℕ = around h in
     let k : ℕ = (length xs - 1) / 2 in
     let lsize : length ls ≡ length xs - 1 - k = omega arith in
     record {
-      rhigh = λ i l. right-high m j xs ys s in-j near far front others rs ls cut size k cut2 size2 h odd refl y i (omega arith);
-      lhigh = λ i l. left-high m j xs ys s in-j near far front others rs ls cut size k cut2 size2 h odd refl y i (omega arith);
-      lfar = λ i l. left_far m j xs ys s in-j near far front others rs ls cut size k cut2 size2 h odd refl y i (omega arith);
+      rhigh = λ i l. right-high m j xs ys s in-j near far front others rs ls cut size k cut2 size2 h refl refl y i (omega arith);
+      lhigh = λ i l. left-high m j xs ys s in-j near far front others rs ls cut size k cut2 size2 h refl refl y i (omega arith);
+      lfar = λ i l. left_far m j xs ys s in-j near far front others rs ls cut size k cut2 size2 h refl refl y i (omega arith);
       parted = λ us vs eu ev fu fv. record {
         rsize = eu ∙ size2;
         lsize = ev ∙ lsize;
-        rlisted = right-listed m j xs ys s in-j near far front others rs ls cut size k cut2 size2 h odd refl y us (eu ∙ size2) (λ i l. fu i (omega arith));
-        llisted = left-listed m j xs ys s in-j near far front others rs ls cut size k cut2 size2 h odd refl y vs (ev ∙ lsize) (λ i l. fv i (omega arith));
-        rsame = right-same m j xs ys s in-j near far front others rs ls cut size k cut2 size2 h odd refl y us (eu ∙ size2) (λ i l. fu i (omega arith));
-        lsame = left-same m j xs ys s in-j near far front others rs ls cut size k cut2 size2 h odd refl y vs (ev ∙ lsize) (λ i l. fv i (omega arith));
+        rlisted = right-listed m j xs ys s in-j near far front others rs ls cut size k cut2 size2 h refl refl y us (eu ∙ size2) (λ i l. fu i (omega arith));
+        llisted = left-listed m j xs ys s in-j near far front others rs ls cut size k cut2 size2 h refl refl y vs (ev ∙ lsize) (λ i l. fv i (omega arith));
+        rsame = right-same m j xs ys s in-j near far front others rs ls cut size k cut2 size2 h refl refl y us (eu ∙ size2) (λ i l. fu i (omega arith));
+        lsame = left-same m j xs ys s in-j near far front others rs ls cut size k cut2 size2 h refl refl y vs (ev ∙ lsize) (λ i l. fv i (omega arith));
       };
     }
 

@@ -1,5 +1,7 @@
 -- The set that a list of numbers in rising order is, and what a table holds once its tree is written.
-use Rattle.std.specs.Prelude.{◌≡◌, ℕ, ◌-◌, ◌^◌, ◌<◌, ◌≤◌, Bool, true, false, ◌||◌, T, List, [], ◌∷◌, length, ◌==◌, slice_index}
+use Rattle.std.specs.Prelude.{◌≡◌, ℕ, ◌-◌, ◌^◌, ◌<◌, ◌≤◌, Bool, false, ◌||◌, T, List, [], ◌∷◌, length, Ok, Err, Result, ◌==◌, slice_index}
+use Rattle.spread.specs.declared.SpreadFault.{SpreadFault}
+use Rattle.spread.specs.declared.SpreadFault.TheVariants.{Wide, Short, Unlisted}
 use Rattle.tree.specs.Number.{entries, number}
 use Rattle.tree.specs.Written.{full, written}
 
@@ -31,7 +33,14 @@ pub record Wrote (K : ℕ) (members before after : List ℕ) : Type 0 where
   pub reads : (i : ℕ) → 1 ≤ i → i ≤ length members → T (among members (number K (entries after) i))
   pub finds : (q : ℕ) → T (among members q) → (i : ℕ) × (1 ≤ i) × (i ≤ length members) × (number K (entries after) i ≡ q)
 
+-- The members may not be written, and why: the first of these that holds
+abbrev pub Unfit : SpreadFault → ℕ → List ℕ → List ℕ → Type 0
+Unfit Wide K members table = 10 < K
+Unfit Short K members table = (K ≤ 10) × (length table ≤ length members)
+Unfit Unlisted K members table = (K ≤ 10) × (length members < length table) × (Listed (full K) members → ⊥)
+
 -- What `write` leaves, by its answer: the members hold nothing of use once they are written, and nothing has changed where it refuses
-abbrev pub Outcome : Bool → ℕ → List ℕ → List ℕ → List ℕ → List ℕ → Type 0
-Outcome true K members members' table table' = Fit K members table × Wrote K members table table'
-Outcome false K members members' table table' = (Fit K members table → ⊥) × (members' ≡ members) × (table' ≡ table)
+abbrev pub Outcome : Result (Unit {0}) SpreadFault → ℕ → List ℕ → List ℕ → List ℕ → List ℕ → Type 0
+Outcome (Ok _) K members members' table table' = Fit K members table × Wrote K members table table'
+Outcome (Err f) K members members' table table' =
+    (Fit K members table → ⊥) × Unfit f K members table × (members' ≡ members) × (table' ≡ table)

@@ -1,7 +1,11 @@
 -- What the steps of the writer do, on a list of members in rising order.
-use Rattle.std.specs.Prelude.{◌≡◌, ℕ, ◌+◌, ◌-◌, ◌*◌, ◌/◌, ◌^◌, ◌<◌, ◌≤◌, Bool, cond, ◌&&◌, List, length, ◌≢◌, nat_le, nat_lt, slice_index}
-use Rattle.tree.specs.Written.{full, left, right}
+use Rattle.std.specs.Prelude.{◌≡◌, ℕ, suc, ◌+◌, ◌-◌, ◌*◌, ◌/◌, ◌<◌, ◌≤◌, Bool, cond, ◌&&◌, List, length, ◌≢◌, nat_le, nat_lt, slice_index}
+use Rattle.tree.specs.Written.{left, right}
 use Rattle.spread.specs.Members.{Listed, among}
+
+-- how many numbers a circle has: one, and h on either side of it
+abbrev pub around : ℕ → ℕ
+around h = suc (h + h)
 
 -- the member t, counted on round the circle of m numbers a second time
 abbrev pub turn : ℕ → List ℕ → ℕ → ℕ
@@ -24,13 +28,19 @@ pub record Parted (h p : ℕ) (members rights lefts : List ℕ) : Type 0 where
   pub rsame : (q : ℕ) → 1 ≤ q → q ≤ h → right h (among members) p q ≡ among rights q
   pub lsame : (q : ℕ) → 1 ≤ q → q ≤ h → left h (among members) p q ≡ among lefts q
 
--- The members may be written at the width w to the places j * stride + rest of the table
-pub record Room (w stride rest : ℕ) (members table : List ℕ) : Type 0 where
-  pub listed : Listed (full w) members
-  pub width : w ≤ 10
-  pub apart : rest < stride
-  pub span : stride * 2 ^ w ≤ 1024
-  pub long : length members * stride + rest < length table
+-- a part has the numbers of how far each is after p, round the circle of m numbers, less b
+abbrev pub Renumbered : ℕ → ℕ → ℕ → List ℕ → List ℕ → Type 0
+Renumbered m p b rs us = (i : ℕ) → i < length rs → slice_index us i ≡ ahead m p (slice_index rs i) - b
+
+-- The members after the pivot, which stands at j, cut in two: they are the parts, once they have numbers of their own
+pub record Halves (h j : ℕ) (members rights lefts : List ℕ) : Type 0 where
+  pub rhigh : (i : ℕ) → i < length rights → slice_index rights i ≤ around h
+  pub lhigh : (i : ℕ) → i < length lefts → slice_index lefts i ≤ around h
+  pub lfar : (i : ℕ) → i < length lefts → h ≤ ahead (around h) (slice_index members j) (slice_index lefts i)
+  pub parted :
+      (us vs : List ℕ) → length us ≡ length rights → length vs ≡ length lefts →
+      Renumbered (around h) (slice_index members j) 0 rights us → Renumbered (around h) (slice_index members j) h lefts vs →
+      Parted h (slice_index members j) members us vs
 
 -- The places j * stride + rest of a table, for 1 ≤ j ≤ n, hold W
 abbrev pub Filled : List ℕ → ℕ → ℕ → ℕ → (ℕ → ℕ) → Type 0

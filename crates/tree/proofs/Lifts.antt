@@ -1,7 +1,8 @@
 -- The places 1 .. n of a tree, taken up together, level by level.
-use Rattle.std.proofs.Common.{◌≡◌, ℕ, suc, ◌+◌, ◌-◌, ◌^◌, ◌<◌, ◌≤◌, cond, ltb, List, length, get_or, set, sym, refl, ap, ◌∙◌, ap₂, inl, inr, arith, pow_pos}
+use Rattle.std.proofs.Common.{◌≡◌, ℕ, suc, ◌+◌, ◌-◌, ◌^◌, ◌<◌, ◌≤◌, List, ◌++◌, length, get_or, take, drop, sym, ap, ◌∙◌, ap₂, inl, inr, arith, pow_pos}
 use native.Mathlib.Nat.{two-pow-succ}
-use Rattle.std.proofs.lemmas.List.{get_or-set_same, get_or-set_other}
+use Rattle.std.proofs.lemmas.List.{get_or_append_left, get_or-append_right, get_or-take, get_or-drop, length-take-le}
+use borrow.Rule.Slice.PartMut.{put_mid, post_of}
 use Rattle.std.proofs.lemmas.Bool.{lt-ltb, le-ltb, cond-true, cond-false}
 use Rattle.tree.specs.Number.{climb, number}
 use Rattle.tree.specs.Steps.{Lifted, spot, up}
@@ -9,33 +10,29 @@ use Rattle.tree.proofs.Circle.{le_or}
 use Rattle.tree.proofs.Spots.{climb_own, climb-down}
 
 module _ (K : ℕ) (W : ℕ → ℕ) where
-  -- One level: of the places of xs those before i are lifted, and no others
-
-  abbrev pub Lifting : ℕ → List ℕ → ℕ → List ℕ → Type 0
-  Lifting l xs i ys =
-      ((j : ℕ) → j + 1 < i → get_or ys j 0 ≡ cond (ltb (j + 1) (2 ^ suc l)) (get_or xs j 0) (up K W l (j + 1) (get_or xs j 0)))
-      × ((j : ℕ) → i ≤ j + 1 → get_or ys j 0 ≡ get_or xs j 0)
-
-  pub lifting_none : (l : ℕ) (xs : List ℕ) → Lifting l xs (2 ^ suc l) xs
-  lifting_none l xs = (λ j h. sym (cond-true _ _ _ (lt-ltb (j + 1) (2 ^ suc l) h)), λ j h. refl)
-
-  pub lifting-more :
-      (l i r : ℕ) (xs ys : List ℕ) → Lifting l xs i ys → 2 ^ suc l ≤ i → i ≤ length ys → r ≡ up K W l i (get_or ys (i - 1) 0) →
-      Lifting l xs (i + 1) (set ys (i - 1) r)
-  lifting-more l i r xs ys s lo hi e =
-      let one : 1 ≤ i = omega (arith, pow_pos (suc l)) in (
-        λ j h. elim (le_or i (j + 1)) [
-          | inl y ↦
-              let ji : j ≡ i - 1 = omega arith in
-              ap (λ x. get_or (set ys (i - 1) r) x 0) ji
-              ∙ (get_or-set_same ys (i - 1) r 0 (omega arith)
-              ∙ (e
-              ∙ (ap₂ (up K W l) (let z : i ≡ j + 1 = omega arith in z) (ap (λ x. get_or ys x 0) (sym ji) ∙ s.1 j y)
-              ∙ sym (cond-false _ _ _ (le-ltb (j + 1) (2 ^ suc l) (omega arith))))))
-          | inr y ↦ get_or-set_other ys (i - 1) j r 0 (λ q. omega arith) ∙ s.0 j y
-        ],
-        λ j h. get_or-set_other ys (i - 1) j r 0 (λ q. omega arith) ∙ s.1 j (omega arith),
-      )
+  -- One level: the places from f on, which are below it, are lifted, and those before them are as they were
+  pub lifted-part :
+      (l f : ℕ) (xs ys : List ℕ) → f ≡ 2 ^ suc l → f - 1 ≤ length xs → length ys ≡ length xs - (f - 1) →
+      ((i : ℕ) → i < length ys → get_or ys i 0 ≡ up K W l (f + i) (get_or (take (length xs - (f - 1)) (drop (f - 1) xs)) i 0)) →
+      Lifted K W l xs (put_mid (f - 1) (length xs - (f - 1)) xs ys)
+  lifted-part l f xs ys e in-a long is j h =
+      let a : ℕ = f - 1 in
+      let n : ℕ = length xs - a in
+      let one : 1 ≤ f = omega (arith, pow_pos (suc l)) in
+      elim (le_or a j) [
+        | inl y ↦
+            let i : ℕ = j - a in
+            let at : get_or (take n (drop a xs)) i 0 ≡ get_or xs j 0 =
+            get_or-take n (drop a xs) i 0 (omega arith) ∙ (get_or-drop a xs i 0 ∙ ap (λ x. get_or xs x 0) (let z : a + i ≡ j = omega arith in z)) in
+            get_or-append_right (take a xs) (ys ++ post_of a n xs) a j 0 (length-take-le a xs in-a) y
+            ∙ (get_or_append_left ys (post_of a n xs) 0 i (omega arith)
+            ∙ (is i (omega arith)
+            ∙ (ap₂ (up K W l) (let z : f + i ≡ j + 1 = omega arith in z) at
+            ∙ sym (cond-false _ _ _ (le-ltb (j + 1) (2 ^ suc l) (omega arith))))))
+        | inr y ↦
+            get_or_append_left (take a xs) (ys ++ post_of a n xs) 0 j (omega (arith, length-take-le a xs in-a))
+            ∙ (get_or-take a xs j 0 y ∙ sym (cond-true _ _ _ (lt-ltb (j + 1) (2 ^ suc l) (omega arith))))
+      ]
 
   -- All of them: the places below the level b have come up to it, and the others are as they were
 

@@ -1,7 +1,7 @@
 -- smod on signed numbers.
-use Rattle.std.proofs.Common.{◌≡◌, ℕ, zero, suc, ◌+◌, ◌-◌, ◌*◌, ◌/◌, ◌%◌, ◌<◌, ◌≤◌, ◌⊎◌, ℤ, pos, negsuc, ◌+ℤ◌, ◌-ℤ◌, ◌*ℤ◌, nat_abs, ◌≤ℤ◌, ◌<ℤ◌, sym, refl, ap, ◌∙◌, ap₂, inl, inr, mod-lt, mod-eq_of_lt, suc-mul, div-add-mod', arith, w32, SFits, to_z, of_z}
+use Rattle.std.proofs.Common.{◌≡◌, ℕ, zero, suc, ◌+◌, ◌-◌, ◌*◌, ◌/◌, ◌%◌, ◌<◌, ◌≤◌, ◌⊎◌, ℤ, pos, negsuc, ◌+ℤ◌, ◌-ℤ◌, ◌*ℤ◌, nat_abs, ◌≤ℤ◌, ◌<ℤ◌, sym, refl, ap, ◌∙◌, inl, inr, mod-lt, mod-eq_of_lt, suc-mul, div-add-mod', arith}
 use native.Mathlib.Nat.{mod_self, mod-add-mod, add-mod_right, suc-mod}
-use Rattle.std.proofs.lemmas.Int.{ints, to_z-of_z}
+use Rattle.std.proofs.lemmas.Int.{ints}
 use Rattle.std.specs.Int.{int_rem_euclid}
 use Rattle.tree.specs.Smod.{smod, smodℤ}
 use Rattle.tree.specs.Laws.{SmodStands}
@@ -120,12 +120,3 @@ smod-turned n m t pm pt tm way =
     turn (inl q) = inl (omega (arith, ints))
     turn (inr (inl q)) = inr (inl (omega (arith, ints)))
     turn (inr (inr q)) = inr (inr (omega (arith, ints)))
-
--- the offset remainder of n on the circle of 2 s - 1 numbers, in the program's own terms
-pub smod-read :
-    (n r : ℤ) (s : ℕ) → SFits w32 n → SFits w32 r → 1 ≤ s → s ≤ 512 →
-    r ≡ pos (smodℤ (to_z w32 (of_z w32 n)) (nat_abs (to_z w32 (of_z w32 (to_z w32 (of_z w32 (pos 2 *ℤ to_z w32 s)) -ℤ pos 1))))) →
-    nat_abs (to_z w32 (of_z w32 r)) ≡ smodℤ n (2 * s - 1)
-smod-read n r s fn fr ls hs e =
-    let m : nat_abs (to_z w32 (of_z w32 (to_z w32 (of_z w32 (pos 2 *ℤ to_z w32 s)) -ℤ pos 1))) ≡ 2 * s - 1 = omega (arith, ints) in
-    ap nat_abs (to_z-of_z w32 r fr ∙ e) ∙ ap₂ smodℤ (to_z-of_z w32 n fn) m

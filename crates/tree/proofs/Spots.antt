@@ -1,5 +1,5 @@
 -- The way up by the bits of the place, as the program goes, is the standard's.
-use Rattle.std.proofs.Common.{◌≡◌, ℕ, suc, ◌+◌, ◌-◌, ◌*◌, ◌/◌, ◌%◌, ◌^◌, ◌<◌, ◌≤◌, true, ltb, leb, List, length, pos, ◌+ℤ◌, ◌-ℤ◌, sym, ap, ◌∙◌, ap₂, inl, inr, mod-lt, mod-eq_of_lt, arith, pow_pos, pow_mono}
+use Rattle.std.proofs.Common.{◌≡◌, ℕ, suc, ◌+◌, ◌-◌, ◌*◌, ◌/◌, ◌%◌, ◌^◌, ◌<◌, ◌≤◌, true, ltb, leb, List, length, ℤ, pos, ◌+ℤ◌, ◌-ℤ◌, sym, ap, ◌∙◌, ap₂, inl, inr, mod-lt, mod-eq_of_lt, arith, pow_pos, pow_mono}
 use native.Mathlib.Nat.{two-pow-succ, add-mod_right}
 use Rattle.std.proofs.lemmas.Nat.{one_shl, mod-pow-add}
 use Rattle.std.proofs.lemmas.Bool.{lt-ltb, le-ltb, eq-eqb, ne_eqb, cond-true, cond-false, cases_eq, and_parts, leb-true, ltb-true}
@@ -23,35 +23,27 @@ reached t K i e =
     let b = and_parts (ltb i (2 ^ K)) _ a.1 in
     (leb-true K 10 a.0, ltb-true i (2 ^ K) b.0, ltb-true i (length t) b.1)
 
--- the sizes at the level l, as the program has them
-pub sizes :
-    (k l : ℕ) → l < k → k ≤ 10 →
-    ((1 * 2 ^ l) % 18446744073709551616 ≡ 2 ^ l) × ((1 * 2 ^ (k - 1 - l)) % 65536 ≡ 2 ^ (k - suc l)) × (1 ≤ 2 ^ (k - suc l)) × (2 ^ (k - suc l) ≤ 512)
-sizes k l h f =
+-- the size at the level l, as the program has it
+pub size_is : (k l : ℕ) → l < k → k ≤ 10 → ((1 * 2 ^ (k - 1 - l)) % 65536 ≡ 2 ^ (k - suc l)) × (2 ^ (k - suc l) ≤ 512)
+size_is k l h f =
     let a : k - 1 - l ≡ k - suc l = omega arith in
     let b : k - suc l ≤ 9 = omega arith in
     let m : 2 ^ (k - suc l) ≤ 2 ^ 9 = pow_mono b in
-    (one_shl l 64 (omega arith), one_shl (k - 1 - l) 16 (omega arith) ∙ ap (λ x. 2 ^ x) a, pow_pos (k - suc l), m)
+    (one_shl (k - 1 - l) 16 (omega arith) ∙ ap (λ x. 2 ^ x) a, m)
 
-module _ (K : ℕ) (W : ℕ → ℕ) (l i n r p h s : ℕ) (fit : l < K) (hs : h ≡ 2 ^ l) (ss : s ≡ 2 ^ (K - suc l)) (at : p ≡ h + i % h) where
+-- one step up, from what the program adds up
+module _ (K : ℕ) (W : ℕ → ℕ) (l i n r s : ℕ) (sum : ℤ) (fit : l < K) (is : s ≡ 2 ^ (K - suc l)) (e : r ≡ smodℤ sum (2 * s - 1)) where
   wide : 2 * s - 1 ≡ 2 ^ (K - l) - 1
   wide =
       let e : 2 ^ (K - l) ≡ 2 ^ suc (K - suc l) = ap (λ x. 2 ^ x) (let z : K - l ≡ suc (K - suc l) = omega arith in z) in
       omega (arith, two-pow-succ (K - suc l))
 
-  here : p ≡ spot l i
-  here = at ∙ ap (λ x. x + i % x) hs
+  pub step_left : i / 2 ^ l % 2 ≡ 0 → sum ≡ pos (W (spot l i)) -ℤ pos s +ℤ pos n → r ≡ up K W l i n
+  step_left z f =
+      e ∙ (ap₂ smodℤ (f ∙ ap (λ x. pos (W (spot l i)) -ℤ pos x +ℤ pos n) is) wide ∙ sym (cond-true _ _ _ (eq-eqb (i / 2 ^ l % 2) 0 z)))
 
-  pub step_left : i / 2 ^ l % 2 ≡ 0 → r ≡ smodℤ (pos (W p) -ℤ pos s +ℤ pos n) (2 * s - 1) → r ≡ up K W l i n
-  step_left z e =
-      e ∙ (ap (λ x. smodℤ (pos (W x) -ℤ pos s +ℤ pos n) (2 * s - 1)) here
-      ∙ (ap₂ (λ x y. smodℤ (pos (W (spot l i)) -ℤ pos x +ℤ pos n) y) ss wide
-      ∙ sym (cond-true _ _ _ (eq-eqb (i / 2 ^ l % 2) 0 z))))
-
-  pub step_right : (i / 2 ^ l % 2 ≡ 0 → ⊥) → r ≡ smodℤ (pos (W p) +ℤ pos n) (2 * s - 1) → r ≡ up K W l i n
-  step_right z e =
-      e ∙ (ap₂ (λ x y. smodℤ (pos (W x) +ℤ pos n) y) here wide
-      ∙ sym (cond-false _ _ _ (ne_eqb (i / 2 ^ l % 2) 0 z)))
+  pub step_right : (i / 2 ^ l % 2 ≡ 0 → ⊥) → sum ≡ pos (W (spot l i)) +ℤ pos n → r ≡ up K W l i n
+  step_right z f = e ∙ (ap₂ smodℤ f wide ∙ sym (cond-false _ _ _ (ne_eqb (i / 2 ^ l % 2) 0 z)))
 
 -- a place is the spot of its own level
 spot_own : (l i : ℕ) → 2 ^ l ≤ i → i < 2 ^ suc l → spot l i ≡ i

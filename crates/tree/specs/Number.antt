@@ -1,6 +1,8 @@
 -- F(i), the number that the place i of a tree stands for: worked out from W(i) up to the root, as GSM 04.08's program does it.
 -- A tree of width K has the places 1 .. 2 ^ K - 1, and its numbers W(i) are a function of the place.
-use Rattle.std.specs.Prelude.{◌≡◌, ℕ, zero, suc, ◌+◌, ◌-◌, ◌*◌, ◌^◌, ◌<◌, Bool, cond, ◌&&◌, List, length, pos, ◌+ℤ◌, ◌-ℤ◌, Some, None, Option, nat_le, nat_lt, slice_index}
+use Rattle.std.specs.Prelude.{◌≡◌, ℕ, zero, suc, ◌+◌, ◌-◌, ◌*◌, ◌^◌, ◌<◌, Bool, cond, ◌&&◌, if◌then◌else◌, List, length, pos, ◌+ℤ◌, ◌-ℤ◌, Some, None, Ok, Err, Option, Result, nat_le, nat_lt, slice_index}
+use Rattle.tree.specs.declared.TreeFault.{TreeFault}
+use Rattle.tree.specs.declared.TreeFault.TheVariants.{Wide, Beyond, Short}
 use Rattle.tree.specs.Smod.{smodℤ}
 
 -- The way up from the place i, where n is what has been worked out so far. The place is on the level l: J, the greatest power of two
@@ -29,6 +31,14 @@ entries t i = slice_index t i
 -- whether the places up to i are in the tree of width K, no wider than that of range 1024, and in the table
 abbrev pub reaches : List ℕ → ℕ → ℕ → Bool
 reaches t K i = nat_le K 10 && (nat_lt i (2 ^ K) && nat_lt i (length t))
+
+-- what is lacking where they are not: the first of these
+abbrev pub lack : List ℕ → ℕ → ℕ → TreeFault
+lack t K i = if nat_le K 10 then (if nat_lt i (2 ^ K) then Short else Beyond) else Wide
+
+-- whether the numbers up to F(i) are read, or what is lacking
+abbrev pub answer : List ℕ → ℕ → ℕ → Result (Unit {0}) TreeFault
+answer t K i = if reaches t K i then Ok tt else Err (lack t K i)
 
 -- F(i) of the tree of width K in the table, if it has the place
 abbrev pub number_at : List ℕ → ℕ → ℕ → Option ℕ
