@@ -1,10 +1,7 @@
 -- The octets of a variable bit map, one by one.
-use Rattle.std.proofs.Common.{◌≡◌, ℕ, suc, ◌+◌, ◌-◌, ◌*◌, ◌/◌, ◌%◌, ◌^◌, ◌<◌, ◌≤◌, Bool, true, false, ◌&&◌, ◌||◌, eqb, ltb, leb, List, ◌++◌, map, length, get_or, take, drop, sym, refl, ap, ◌∙◌, ap₂, ⊎_elim, arith}
+use Rattle.std.proofs.Common.{◌≡◌, ℕ, suc, ◌+◌, ◌-◌, ◌*◌, ◌/◌, ◌%◌, ◌^◌, ◌<◌, ◌≤◌, Bool, true, false, ◌&&◌, ◌||◌, eqb, ltb, leb, List, length, get_or, sym, refl, ap, ◌∙◌, ap₂, ⊎_elim, arith}
 use lib.Bits.{bit_or}
-use Rattle.std.specs.List.{range_with_len}
 use Rattle.std.specs.Int.{reverse_bits_onto}
-use Rattle.std.proofs.lemmas.List.FromFn.{length-map-range_with_len}
-use Rattle.std.proofs.lemmas.List.{take_at, drop_at}
 use Rattle.std.proofs.lemmas.Bool.{eq-eqb, ne_eqb, lt-ltb, le-ltb, le-leb, lt-leb, cases_lt, cases_eq, cond-true, cond-false, and_left}
 use Rattle.bits.specs.Bits.{bit}
 use Rattle.bits.proofs.Digits.{bits-same, bit-number, number-below, bit_mod, bit_shr, bit_past, bit-or, bit_pow}
@@ -41,38 +38,38 @@ pub other_marks : (j o : ℕ) → 2 < j → reverse_bits_onto 8 o 0 ≡ marks_in
 other_marks j o h = reversed_is o (λ k. eqb (8 * (j - 2) + k) 0 || bit o (7 - k)) (λ k l. ap (λ b. b || bit o (7 - k)) (sym (ne_eqb (8 * (j - 2) + k) 0 (λ e. omega arith))))
 
 -- before the first octet of the map, one octet more, and after the last
-pub none-marked : (os : List ℕ) (n : ℕ) → holds no_channels n ≡ (ltb n (8 * (2 - 2)) && is_marked os n)
-none-marked os n = holds-none n ∙ sym (and_left (ltb n (8 * (2 - 2))) (is_marked os n) (le-ltb n (8 * (2 - 2)) (omega arith)))
+pub none-marked : (os : List ℕ) (n : ℕ) → holds no_channels n ≡ (ltb n (8 * 0) && is_marked os n)
+none-marked os n = holds-none n ∙ sym (and_left (ltb n (8 * 0)) (is_marked os n) (le-ltb n (8 * 0) (omega arith)))
 
-pub marked_more : (os : List ℕ) (j v : ℕ) (cur : ChannelSet) → 2 ≤ j → v ≡ marks_in j (get_or os j 0)
-    → ((n : ℕ) → n < 1024 → holds cur n ≡ (ltb n (8 * (j - 2)) && is_marked os n))
-    → (n : ℕ) → n < 1024 → holds (put_eight cur (8 * (j - 2)) v) n ≡ (ltb n (8 * (j + 1 - 2)) && is_marked os n)
-marked_more os j v cur h is inv n l =
-    let from = 8 * (j - 2) in
-    let f : ℕ → Bool = λ k. eqb (8 * (j - 2) + k) 0 || bit (get_or os j 0) (7 - k) in
+pub marked_more : (os : List ℕ) (i o v : ℕ) (cur : ChannelSet) → o ≡ get_or os (2 + i) 0 → v ≡ marks_in (2 + i) o
+    → ((n : ℕ) → n < 1024 → holds cur n ≡ (ltb n (8 * i) && is_marked os n))
+    → (n : ℕ) → n < 1024 → holds (put_eight cur (8 * i) v) n ≡ (ltb n (8 * (i + 1)) && is_marked os n)
+marked_more os i o v cur here is inv n l =
+    let from = 8 * i in
+    let f : ℕ → Bool = λ k. eqb (8 * (2 + i - 2) + k) 0 || bit o (7 - k) in
     holds_of (λ k. holds cur k || (leb from k && bit v (k - from))) n l ∙ ap (λ b. b || (leb from n && bit v (n - from))) (inv n l)
     ∙ ⊎_elim
     (λ low. ap₂ (λ a b. (a && is_marked os n) || (b && bit v (n - from))) (lt-ltb n from low) (lt-leb from n low)
-    ∙ or_false (is_marked os n) false refl ∙ ap (λ a. a && is_marked os n) (sym (lt-ltb n (8 * (j + 1 - 2)) (omega arith))))
+    ∙ or_false (is_marked os n) false refl ∙ ap (λ a. a && is_marked os n) (sym (lt-ltb n (8 * (i + 1)) (omega arith))))
     (λ high. ap₂ (λ a b. (a && is_marked os n) || (b && bit v (n - from))) (le-ltb n from high) (le-leb from n high)
     ∙ ⊎_elim
     (λ inside.
-    let back : 8 * (j - 2) + (n - 8 * (j - 2)) ≡ n = omega arith in
-    let place : 8 * j + (n - 8 * (j - 2)) ≡ 16 + n = omega arith in
+    let back : 8 * (2 + i - 2) + (n - 8 * i) ≡ n = omega arith in
+    let place : 8 * (2 + i) + (n - 8 * i) ≡ 16 + n = omega arith in
     ap (λ x. bit x (n - from)) is ∙ bit-number f 8 (n - from) inside
-    ∙ ap₂ (λ a b. eqb a 0 || b) back (sym (at_octet os j (n - from) inside) ∙ ap (bit_at os) place)
-    ∙ ap (λ a. a && is_marked os n) (sym (lt-ltb n (8 * (j + 1 - 2)) (omega arith))))
-    (λ past. ap (λ x. bit x (n - from)) is ∙ bit_past (marks_in j (get_or os j 0)) 8 (n - from) (number-below f 8) past
-    ∙ sym (and_left (ltb n (8 * (j + 1 - 2))) (is_marked os n) (le-ltb n (8 * (j + 1 - 2)) (omega arith))))
+    ∙ ap₂ (λ a b. eqb a 0 || b) back (ap (λ x. bit x (7 - (n - from))) here ∙ sym (at_octet os (2 + i) (n - from) inside) ∙ ap (bit_at os) place)
+    ∙ ap (λ a. a && is_marked os n) (sym (lt-ltb n (8 * (i + 1)) (omega arith))))
+    (λ past. ap (λ x. bit x (n - from)) is ∙ bit_past (marks_in (2 + i) o) 8 (n - from) (number-below f 8) past
+    ∙ sym (and_left (ltb n (8 * (i + 1))) (is_marked os n) (le-ltb n (8 * (i + 1)) (omega arith))))
     (cases_lt (n - from) 8))
     (cases_lt n from)
 
-pub all-marked : (os : List ℕ) (s : ChannelSet) (j : ℕ) → length os ≤ j → ((n : ℕ) → n < 1024 → holds s n ≡ (ltb n (8 * (j - 2)) && is_marked os n)) → 3 ≤ j → s ≡ set_of (is_marked os)
-all-marked os s j e h three =
+pub all-marked : (os : List ℕ) (s : ChannelSet) (i : ℕ) → length os ≤ 2 + i → ((n : ℕ) → n < 1024 → holds s n ≡ (ltb n (8 * i) && is_marked os n)) → 1 ≤ i → s ≡ set_of (is_marked os)
+all-marked os s i e h one =
     set_is s (is_marked os) (λ n l. h n l
-    ∙ ⊎_elim (λ near. ap (λ a. a && is_marked os n) (lt-ltb n (8 * (j - 2)) near))
-    (λ far. and_left (ltb n (8 * (j - 2))) (is_marked os n) (le-ltb n (8 * (j - 2)) far)
-    ∙ sym (ap₂ (λ a b. a || b) (ne_eqb n 0 (λ z. omega arith)) (at-past os (16 + n) (omega arith)))) (cases_lt n (8 * (j - 2))))
+    ∙ ⊎_elim (λ near. ap (λ a. a && is_marked os n) (lt-ltb n (8 * i) near))
+    (λ far. and_left (ltb n (8 * i)) (is_marked os n) (le-ltb n (8 * i) far)
+    ∙ sym (ap₂ (λ a b. a || b) (ne_eqb n 0 (λ z. omega arith)) (at-past os (16 + n) (omega arith)))) (cases_lt n (8 * i)))
 
 pub turned_to_orig : (os : List ℕ) → turned (set_of (is_marked os)) (orig_in os % 1024) ≡ variable_set os
 turned_to_orig os =
@@ -134,8 +131,3 @@ module _ (t : ChannelSet) (o j : ℕ) where
       reversed_is (eight_from t (8 * (j - 2))) at (λ b l. bit-number (λ k. holds t (8 * (j - 2) + k)) 8 (7 - b) (omega arith) ∙ sym (in_map b (omega arith) (omega arith)))
 
 -- the octets written, and those behind them
-pub octets-all : (f : ℕ → ℕ) (xs ys : List ℕ) (j n : ℕ) → j ≡ n → xs ≡ map f (range_with_len 0 j) ++ drop j ys → (take n xs ≡ map f (range_with_len 0 n)) × (drop n xs ≡ drop n ys)
-octets-all f xs ys j n same e =
-    let whole : xs ≡ map f (range_with_len 0 n) ++ drop n ys = e ∙ ap (λ k. map f (range_with_len 0 k) ++ drop k ys) same in
-    let long : length (map f (range_with_len 0 n)) ≡ n = length-map-range_with_len f 0 n in
-    (ap (take n) whole ∙ take_at (map f (range_with_len 0 n)) (drop n ys) n long, ap (drop n) whole ∙ drop_at (map f (range_with_len 0 n)) (drop n ys) n long)

@@ -6,7 +6,7 @@ use Rattle.bits.specs.Lowest.{lowest}
 use Rattle.channels.specs.declared.ChannelSet.{ChannelSet}
 use Rattle.channels.specs.Sets.{holds, set_of, eight_from}
 use Rattle.piles.specs.Laws.{Claim}
-use Rattle.formats.specs.Format.{Codec}
+use Rattle.piles.specs.Codecs.{Codec}
 
 -- bits 8 and 7 are 0
 abbrev pub map_claim : Claim

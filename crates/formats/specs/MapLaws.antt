@@ -16,7 +16,7 @@ use Rattle.piles.specs.Flagged.{plain}
 use Rattle.piles.specs.Laws.{Octets}
 use Rattle.piles.specs.Calls.{some-none}
 use Rattle.formats.specs.BitMap0.{map_claim, in_map, map_bit, map_set, map_octet, map_octets, beyond, unless, bit_map0}
-use Rattle.formats.specs.Formats.{Faithful}
+use Rattle.piles.specs.Faithful.{Faithful}
 
 -- bits 6 and 5 of the first octet
 plain-bit : (o : ℕ) (os : List ℕ) (c : ℕ) → map_bit (plain o ∷ os) c ≡ map_bit (o ∷ os) c

@@ -7,7 +7,7 @@ use Rattle.origins.specs.Origins.{ahead, origin_of, seen_from}
 use Rattle.packing.specs.Fields.{bit_at, field}
 use Rattle.packing.specs.Writing.{octets_of}
 use Rattle.piles.specs.Laws.{Claim}
-use Rattle.formats.specs.Format.{Codec}
+use Rattle.piles.specs.Codecs.{Codec}
 
 -- bits 8 and 7 are 1 0, and bits 4, 3 and 2 are 1 1 1
 abbrev pub variable_claim : Claim

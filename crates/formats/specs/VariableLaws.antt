@@ -18,7 +18,7 @@ use Rattle.packing.proofs.Fields.{at_split, field_below, field_is, field-same, f
 use Rattle.packing.proofs.Packings.{length-octets, octets-below, at-past, at-octets}
 use Rattle.piles.specs.Flagged.{plain}
 use Rattle.formats.specs.Variable.{variable_claim, variable_fits, variable_reach, orig_in, is_marked, variable_set, variable_bit, variable_octets, written_from, variable}
-use Rattle.formats.specs.Formats.{Faithful}
+use Rattle.piles.specs.Faithful.{Faithful}
 
 -- bits 6 and 5 of the first octet
 plain-claims : (o : ℕ) → o < 256 → variable_claim (plain o) ≡ variable_claim o

@@ -1,15 +1,13 @@
 ghost use Rattle.std.specs.Prelude.{◌≡◌, ℕ, ◌+◌, ◌-◌, ◌*◌, ◌<◌, not, ◌&&◌, [], ◌∷◌, ◌++◌, length, drop, is_some};
 ghost use Rattle.bits.specs.Bits.{bit, bit_within};
 ghost use Rattle.bits.specs.Lowest.{lowest};
-ghost use Rattle.formats.specs.Format.{format_of};
 ghost use Rattle.formats.specs.BitMap0.{bit_map0, map_claim, in_map, beyond, map_set, map_octets};
-ghost use Rattle.formats.specs.Formats.{format_lawful};
 ghost use Rattle.formats.specs.MapLaws.{map_faithful};
 
 use channels::ChannelSet;
 use claims::Claims;
 use faults::{FormatFault, PileFault};
-use piles::{Pile, first_octet};
+use piles::format::Format;
 
 // A bit for each of the channels 1 to 124, in sixteen octets, the lowest channel in the lowest bit of the last.
 #[derive(Clone, Copy)]
@@ -36,7 +34,8 @@ fn channel_bits(i: usize, octet: u8) -> u8
     if i == 0 { octet & 0x0F } else { octet }
 }
 
-fn decode(contents: &[u8]) -> ChannelSet
+// What a map of sixteen octets stands for.
+fn set_in(contents: &[u8]) -> ChannelSet
     requires { length contents.now ≡ 16 }
     ensures { result ≡ map_set contents.now }
 {
@@ -55,41 +54,42 @@ fn in_map(set: &ChannelSet) -> bool
     !set.holds(0) && set.next_above(LAST).is_none()
 }
 
-fn encode(set: &ChannelSet, out: &mut [u8; 130])
+// Writes the map of a set.
+fn put_map(set: &ChannelSet, out: &mut [u8; 130])
     ensures { out.new ≡ map_octets set.now ++ drop 16 out.old }
 {
-    for j in 0..16u16 {
-        out[j as usize] = set.eight_from(8 * (15 - j) + 1);
+    for (j, octet) in out[..OCTETS].iter_mut().enumerate() {
+        *octet = set.eight_from(8 * (15 - j as u16) + 1);
     }
 }
 
-impl Pile for BitMap0 {
-    ghost meaning = { λ _. format_of bit_map0 };
+impl Format for BitMap0 {
+    ghost codec = { λ _. bit_map0 };
 
-    ghost lawful = { λ p. format_lawful bit_map0 map_faithful };
+    ghost faithful = { λ _. map_faithful };
 
-    fn claims(&self) -> Claims {
+    fn first_octets(&self) -> Claims {
         claimed_words();
         Claims::of(0xFFFFFFFFFFFFFFFF, 0, 0, 0)
     }
 
-    fn read(&self, contents: &[u8], set: &mut ChannelSet) -> Result<(), PileFault> {
-        let first = first_octet(contents)?;
-        if first >= UNCLAIMED {
-            return Err(PileFault::Unclaimed);
-        }
-        if contents.len() != OCTETS {
-            return Err(PileFault::Format(FormatFault::Length));
-        }
-        *set = decode(contents);
-        Ok(())
+    fn begins(&self, first: u8) -> bool {
+        first < UNCLAIMED
     }
 
-    fn write(&self, set: &ChannelSet, len: usize, out: &mut [u8; 130]) -> Result<(), PileFault> {
-        if len != OCTETS || !in_map(set) {
+    fn has_length(&self, len: usize) -> bool {
+        len == OCTETS
+    }
+
+    fn decode(&self, contents: &[u8]) -> Result<ChannelSet, FormatFault> {
+        Ok(set_in(contents))
+    }
+
+    fn encode(&self, set: &ChannelSet, _len: usize, out: &mut [u8; 130]) -> Result<(), PileFault> {
+        if !in_map(set) {
             return Err(PileFault::Unwritten);
         }
-        encode(set, out);
+        put_map(set, out);
         Ok(())
     }
 }

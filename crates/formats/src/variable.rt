@@ -2,9 +2,7 @@ ghost use Rattle.std.specs.Prelude.{◌≡◌, ℕ, ◌+◌, ◌-◌, ◌*◌, �
 ghost use Rattle.std.specs.Int.{reverse_bits_onto};
 ghost use Rattle.bits.specs.Bits.{bit_within};
 ghost use Rattle.channels.specs.Sets.{turned, set_of, eight_from};
-ghost use Rattle.formats.specs.Format.{format_of};
 ghost use Rattle.formats.specs.Variable.{variable, variable_claim, orig_in, is_marked, variable_set, variable_octets, variable_octet, marks_in};
-ghost use Rattle.formats.specs.Formats.{format_lawful};
 ghost use Rattle.formats.specs.VariableLaws.{variable_faithful};
 
 use channels::ChannelSet;
@@ -12,7 +10,8 @@ use claims::Claims;
 use faults::{FormatFault, PileFault};
 use origins::{origin, turned_down, turned_up};
 use packing::origin_of;
-use piles::{MOST, Pile, first_octet};
+use piles::MOST;
+use piles::format::Format;
 
 // A channel, ORIG, and a bit for each of the channels after it, round the circle, as far as the octets go.
 #[derive(Clone, Copy)]
@@ -33,13 +32,6 @@ fn claimed_octets()
     ensures words { (o : ℕ) → o < 256 → bit_within (0 ∷ 0 ∷ 13835269164735971328 ∷ 0 ∷ []) o ≡ variable_claim o }
     ensures bits { (o : ℕ) → o < 256 → (bit_and o 206 == 142) ≡ variable_claim o }
 {}
-
-fn is_claimed(first: u8) -> bool
-    ensures { result ≡ variable_claim first }
-{
-    claimed_octets();
-    first & CLAIM_BITS == CLAIM
-}
 
 // What an octet of the map is, its highest bit being the nearest channel: facts that a call brings in.
 fn bits_turn(j: usize, octet: u8)
@@ -66,9 +58,9 @@ fn ahead_of_orig(contents: &[u8]) -> ChannelSet
     ensures { result ≡ set_of (is_marked contents.now) }
 {
     let mut seen = ChannelSet::new();
-    for j in 2..contents.len() {
+    for (i, octet) in contents[2..].iter().enumerate() {
         // none of these is over 1023
-        let _ = seen.add_eight(8 * (j as u16 - 2), channel_bits(j, contents[j]));
+        let _ = seen.add_eight(8 * i as u16, channel_bits(2 + i, *octet));
     }
     seen
 }
@@ -78,7 +70,8 @@ fn orig_turns(contents: &[u8])
     ensures { turned (set_of (is_marked contents.now)) (orig_in contents.now % 1024) ≡ variable_set contents.now }
 {}
 
-fn decode(contents: &[u8]) -> ChannelSet
+// What contents stand for.
+fn set_in(contents: &[u8]) -> ChannelSet
     requires least { 3 ≤ length contents.now }
     requires most { length contents.now ≤ 130 }
     ensures { result ≡ variable_set contents.now }
@@ -110,49 +103,45 @@ fn octet(seen: &ChannelSet, orig: u16, j: usize) -> u8
     }
 }
 
-fn encode(set: &ChannelSet, orig: u16, len: usize, out: &mut [u8; 130])
+// Writes a set from ORIG.
+fn put_from(set: &ChannelSet, orig: u16, len: usize, out: &mut [u8; 130])
     requires most { len ≤ 130 }
     requires small { orig < 1024 }
     ensures front { take len out.new ≡ variable_octets set.now len orig }
     ensures rest { drop len out.new ≡ drop len out.old }
 {
     let seen = turned_down(set, orig);
-    for j in 0..len {
-        out[j] = octet(&seen, orig, j);
+    for (j, o) in out[..len].iter_mut().enumerate() {
+        *o = octet(&seen, orig, j);
     }
 }
 
-impl Pile for Variable {
-    ghost meaning = { λ _. format_of variable };
+impl Format for Variable {
+    ghost codec = { λ _. variable };
 
-    ghost lawful = { λ p. format_lawful variable variable_faithful };
+    ghost faithful = { λ _. variable_faithful };
 
-    fn claims(&self) -> Claims {
+    fn first_octets(&self) -> Claims {
         claimed_octets();
         Claims::of(0, 0, 0xC000C000C000C000, 0)
     }
 
-    fn read(&self, contents: &[u8], set: &mut ChannelSet) -> Result<(), PileFault> {
-        let first = first_octet(contents)?;
-        if !is_claimed(first) {
-            return Err(PileFault::Unclaimed);
-        }
-        // more than 130 are refused above
-        if contents.len() < LEAST {
-            return Err(PileFault::Format(FormatFault::Length));
-        }
-        *set = decode(contents);
-        Ok(())
+    fn begins(&self, first: u8) -> bool {
+        claimed_octets();
+        first & CLAIM_BITS == CLAIM
     }
 
-    fn write(&self, set: &ChannelSet, len: usize, out: &mut [u8; 130]) -> Result<(), PileFault> {
-        if len < LEAST || len > MOST {
-            return Err(PileFault::Unwritten);
-        }
-        let Some(orig) = origin(set, (8 * len - HEAD_BITS) as u16) else {
-            return Err(PileFault::Unwritten);
-        };
-        encode(set, orig, len, out);
+    fn has_length(&self, len: usize) -> bool {
+        LEAST <= len && len <= MOST
+    }
+
+    fn decode(&self, contents: &[u8]) -> Result<ChannelSet, FormatFault> {
+        Ok(set_in(contents))
+    }
+
+    fn encode(&self, set: &ChannelSet, len: usize, out: &mut [u8; 130]) -> Result<(), PileFault> {
+        let orig = origin(set, (8 * len - HEAD_BITS) as u16).ok_or(PileFault::Unwritten)?;
+        put_from(set, orig, len, out);
         Ok(())
     }
 }

@@ -4,3 +4,5 @@ pub mod Flagged
 pub mod Filing
 pub mod Combine
 pub mod Calls
+pub mod Codecs
+pub mod Faithful

@@ -35,6 +35,8 @@ fn mark<P: Pile>(pile: &P, set: &ChannelSet, len: usize, flags: Flags, out: &mut
     out[0] = flags.put_into(out[0]);
 }
 
+// Pile, set and octets go together through these three, but are the caller's: a struct of them would be made here and taken apart at once.
+
 // Composes the contents of a list at the front of `out`, and says how many octets they are.
 pub fn compose<P: Pile>(
     pile: &P,

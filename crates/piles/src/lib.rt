@@ -5,6 +5,7 @@
 pub mod beside;
 pub mod filing;
 pub mod flags;
+pub mod format;
 pub mod lengths;
 pub mod licence;
 
@@ -31,7 +32,8 @@ pub trait Pile {
     fn read(&self, contents: &[u8], set: &mut ChannelSet) -> Result<(), PileFault>
         ensures { Filled ((meaning self.now).reads contents.now) result set.old set.new };
 
-    // Writes the set to the first `len` octets; the others stand, and a refusal leaves all.
+    // Writes the set to the first `len` octets; the others stand, and a refusal leaves all. Octets and length are the caller's, since the
+    // library has no memory of its own.
     fn write(&self, set: &ChannelSet, len: usize, out: &mut [u8; 130]) -> Result<(), PileFault>
         ensures { Put ((meaning self.now).writes set.now len) len result out.old out.new };
 

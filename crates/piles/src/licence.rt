@@ -1,5 +1,6 @@
-ghost use Rattle.std.specs.Prelude.{◌≡◌};
-ghost use Rattle.piles.specs.Combined.{licence_of};
+ghost use Rattle.std.specs.Prelude.{◌≡◌, Ok};
+ghost use Rattle.channels.specs.Sets.{first_outside};
+ghost use Rattle.piles.specs.Combined.{licence_of, within};
 ghost use Rattle.piles.specs.Combine.{licence_keeps};
 
 use crate::Pile;
@@ -14,6 +15,18 @@ pub struct Licence<P> {
     pub pile: P,
 }
 
+impl<P> Licence<P> {
+    // Refuses a set for its lowest channel outside the licence.
+    fn admit(&self, set: &ChannelSet) -> Result<(), PileFault>
+        ensures { result ≡ within (first_outside set.now self.now.allowed) (Ok tt) }
+    {
+        match set.lowest_outside(&self.allowed) {
+            Some(c) => Err(PileFault::OutsideLicence(c)),
+            None => Ok(()),
+        }
+    }
+}
+
 impl<P: Pile> Pile for Licence<P> {
     ghost meaning = { λ p. licence_of p.allowed (P.meaning p.pile) };
 
@@ -26,19 +39,13 @@ impl<P: Pile> Pile for Licence<P> {
     fn read(&self, contents: &[u8], set: &mut ChannelSet) -> Result<(), PileFault> {
         let mut got = ChannelSet::new();
         self.pile.read(contents, &mut got)?;
-        match got.lowest_outside(&self.allowed) {
-            Some(c) => Err(PileFault::OutsideLicence(c)),
-            None => {
-                *set = got;
-                Ok(())
-            }
-        }
+        self.admit(&got)?;
+        *set = got;
+        Ok(())
     }
 
     fn write(&self, set: &ChannelSet, len: usize, out: &mut [u8; 130]) -> Result<(), PileFault> {
-        match set.lowest_outside(&self.allowed) {
-            Some(c) => Err(PileFault::OutsideLicence(c)),
-            None => self.pile.write(set, len, out),
-        }
+        self.admit(set)?;
+        self.pile.write(set, len, out)
     }
 }

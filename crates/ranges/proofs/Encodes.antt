@@ -1,9 +1,10 @@
 -- The octets that the writer of a range makes.
-use Rattle.std.proofs.Common.{◌≡◌, ℕ, ◌^◌, ◌<◌, ◌≤◌, true, false, leb, List, ◌++◌, length, get_or, take, drop, Some, None, sym, refl, ap, ◌∙◌, subst, ap₂, ⊎_elim, arith}
+use Rattle.std.proofs.Common.{◌≡◌, ℕ, ◌^◌, ◌<◌, ◌≤◌, true, leb, List, ◌++◌, length, get_or, take, drop, Some, None, Ok, Err, sym, refl, ap, ◌∙◌, subst, ap₂, ⊎_elim, arith}
 use Rattle.std.proofs.lemmas.Bool.{cases_lt, cases_eq, both_ways, cond-true, cond-false, le-leb, lt-leb}
 use Rattle.std.proofs.lemmas.List.{take_at, drop_at}
 use Rattle.channels.specs.declared.ChannelSet.{ChannelSet}
 use Rattle.channels.specs.Sets.{holds, size_of}
+use Rattle.faults.specs.declared.PileFault.TheVariants.{Unwritten}
 use Rattle.origins.proofs.Reach.{member_below}
 use Rattle.packing.specs.declared.Range.{Range}
 use Rattle.packing.specs.Ranges.{width_of, start_of, HasLength}
@@ -64,7 +65,7 @@ module _ (r : Range) (s : ChannelSet) (o : ℕ) (based : base_of r s ≡ Some o)
           (subst (λ w. written (width_of r) (seen s o) i < 2 ^ w) (sym (width_is (width_of r) i)) ((tree-stands (width_of r) (seen s o)).fits (level (width_of r) i) i (level_is (width_of r) i a below).low));
     }
 
-    pub encoded : (t h : ℕ) (before after : List ℕ) → t ≡ tail_in r s o → h ≡ head_of r t → after ≡ packed r h (λ i. get_or table i 0) n L ++ drop L before → Encoded true r s o L before after
+    pub encoded : (t h : ℕ) (before after : List ℕ) → t ≡ tail_in r s o → h ≡ head_of r t → after ≡ packed r h (λ i. get_or table i 0) n L ++ drop L before → Encoded (Ok tt) r s o L before after
     encoded t h before after e f p =
         let c : n ≡ others r s o = size ∙ count ds is in
         let octets : packed r h (λ i. get_or table i 0) n L ≡ range_octets r s L o =
@@ -76,5 +77,5 @@ module _ (r : Range) (s : ChannelSet) (o : ℕ) (based : base_of r s ≡ Some o)
           ap (drop L) made ∙ drop_at (range_octets r s L o) (drop L before) L long,
         )
 
-  pub refused : (L : ℕ) (before : List ℕ) → slots_of r L < others r s o → Encoded false r s o L before before
-  refused L before l = (cond-false (leb (others r s o) (slots_of r L)) (Some (range_octets r s L o)) None (lt-leb (others r s o) (slots_of r L) l), refl)
+  pub refused : (L : ℕ) (before : List ℕ) → slots_of r L < others r s o → Encoded (Err Unwritten) r s o L before before
+  refused L before l = (refl, cond-false (leb (others r s o) (slots_of r L)) (Some (range_octets r s L o)) None (lt-leb (others r s o) (slots_of r L) l), refl)

@@ -1,32 +1,22 @@
 -- Sets that are gathered from distances.
-use Rattle.std.proofs.Common.{◌≡◌, ℕ, suc, ◌+◌, ◌%◌, ◌^◌, ◌<◌, ◌≤◌, Bool, true, false, cond, ◌&&◌, ◌||◌, eqb, ltb, leb, List, length, get_or, is_some, Some, None, Ok, MatchBool, Option, sym, refl, ap, ◌∙◌, subst, ap₂, ⊎_elim, add-one, arith}
+use Rattle.std.proofs.Common.{◌≡◌, ℕ, suc, ◌+◌, ◌%◌, ◌^◌, ◌<◌, ◌≤◌, Bool, true, false, cond, ◌&&◌, ◌||◌, eqb, ltb, leb, List, length, get_or, is_some, Some, None, Ok, Err, MatchResult, Option, Result, if◌then◌else◌, sym, refl, ap, ◌∙◌, subst, ⊎_elim, add-one, arith}
 use Rattle.std.proofs.lemmas.Bool.{eq-eqb, ne_eqb, cond-true, cond-false, cases_eq, and_from, le-leb, lt-ltb}
 use Rattle.bits.specs.Lowest.{lowest, or_else}
 use Rattle.bits.proofs.Lows.{lowest-same}
 use Rattle.channels.specs.declared.ChannelSet.{ChannelSet}
-use Rattle.channels.specs.Sets.{holds, set_of, no_channels, put, turned}
-use Rattle.channels.proofs.Views.{holds-none, holds-put, set_is, set_same}
+use Rattle.channels.specs.Sets.{holds, set_of, put, turned}
+use Rattle.channels.proofs.Views.{holds-put, set_is, set_same}
 use Rattle.origins.specs.Origins.{ahead}
 use Rattle.origins.proofs.Seen.{holds-turned}
 use Rattle.packing.specs.declared.Range.{Range}
 use Rattle.packing.specs.Ranges.{width_of}
 use Rattle.packing.specs.Reading.{number_in, unpacked}
-use Rattle.tree.specs.Number.{number, entries, reaches, Read}
+use Rattle.packing.proofs.Counts.{slots_small, width_narrow}
+use Rattle.tree.specs.Number.{number, entries, reaches, lack, answer, Read}
+use Rattle.tree.specs.declared.TreeFault.{TreeFault}
 use Rattle.tree.proofs.Climbs.{prefix-stands}
-use Rattle.ranges.specs.Readings.{places, on_circle, full-below}
+use Rattle.ranges.specs.Readings.{few, places, on_circle, full-below}
 use Rattle.ranges.specs.Ranges.{gathered, member}
-
--- channel 0, or nothing
-pub zero-not : (s : ChannelSet) (held : Bool) → s ≡ no_channels → held ≡ false → (c : ℕ) → holds s c ≡ cond (eqb c 0) held false
-zero-not s held e h c = ap (λ (t : ChannelSet). holds t c) e ∙ holds-none c ∙ sym (ap (λ b. cond (eqb c 0) b false) h ∙ same (eqb c 0))
-  where
-    same : (b : Bool) → cond b false false ≡ false
-    same true = refl
-    same false = refl
-
-pub zero_yes : (s t : ChannelSet) (held : Bool) → s ≡ no_channels → t ≡ put s 0 true → held ≡ true → (c : ℕ) → holds t c ≡ cond (eqb c 0) held false
-zero_yes s t held e p h c =
-    ap (λ (u : ChannelSet). holds u c) p ∙ holds-put s 0 true (omega arith) c ∙ ap₂ (λ x y. cond (eqb c 0) x y) (sym h) (ap (λ (u : ChannelSet). holds u c) e ∙ holds-none c)
 
 some_more : (p : ℕ → Bool) (k : ℕ) → is_some (lowest p (k + 1)) ≡ (is_some (lowest p k) || p k)
 unfolding lowest
@@ -94,24 +84,35 @@ trees_same o held K n V W below h =
     (lowest-same (λ i. eqb (number K V (suc i)) (ahead o c)) (λ i. eqb (number K W (suc i)) (ahead o c)) n
     (λ i q. ap (λ x. eqb x (ahead o c)) (prefix-stands K V W (suc i) (omega arith) (below (suc i) (omega arith)) (λ j a b. h j a (omega arith))))))
 
--- what the reader of a tree leaves
-pub read_when : (t : List ℕ) (K n : ℕ) (b : Bool) (us vs : List ℕ) → K ≤ 10 → n < 2 ^ K → n < length t → length vs ≡ n
-    → b ≡ reaches t K (length vs) → MatchBool b (Read t K us) (us ≡ vs) → Read t K us
-read_when t K n b us vs w x y z e h =
-    let yes : reaches t K (length vs) ≡ true =
-    ap (reaches t K) z ∙ and_from (leb K 10) (ltb n (2 ^ K) && ltb n (length t)) (le-leb K 10 w) (and_from (ltb n (2 ^ K)) (ltb n (length t)) (lt-ltb n (2 ^ K) x) (lt-ltb n (length t) y)) in
-    subst (λ c. MatchBool c (Read t K us) (us ≡ vs)) (e ∙ yes) h
+-- what the reader of a tree leaves, where it has the places
+pub read_when :
+    (t : List ℕ) (K n m : ℕ) (us : List ℕ) (r : Result (Unit {0}) TreeFault) (Left : Type 0) →
+    reaches t K n ≡ true → m ≡ n → r ≡ answer t K m → MatchResult r (λ _. Read t K us) (λ _. Left) → Read t K us
+read_when t K n m us r Left there e a h =
+    subst (λ (q : Result (Unit {0}) TreeFault). MatchResult q (λ _. Read t K us) (λ _. Left))
+    (a ∙ ap (answer t K) e ∙ ap (λ b. if b then Ok tt else Err (lack t K n)) there) h
 
--- a table that was unpacked
-module _ (r : Range) (os table : List ℕ) (n : ℕ) (ok : unpacked r os ≡ Ok n) (stands : (i : ℕ) → 1 ≤ i → i ≤ n → get_or table i 0 ≡ number_in r os i) where
-  same_numbers : (i : ℕ) → 1 ≤ i → i ≤ n → number (width_of r) (entries table) i ≡ number (width_of r) (number_in r os) i
-  same_numbers i a b = prefix-stands (width_of r) (entries table) (number_in r os) i a (places r os n ok i b) (λ j x y. stands j x (omega arith))
+-- a tree of a table that was unpacked
+module _ (r : Range) (os table : List ℕ) (n : ℕ) (ok : unpacked r os ≡ Ok n) (stands : (i : ℕ) → 1 ≤ i → i ≤ n → get_or table i 0 ≡ number_in r os i)
+    (w : ℕ) (wide : w ≡ width_of r) where
+  same_numbers : (i : ℕ) → 1 ≤ i → i ≤ n → number w (entries table) i ≡ number (width_of r) (number_in r os) i
+  same_numbers i a b =
+      ap (λ k. number k (entries table) i) wide
+      ∙ prefix-stands (width_of r) (entries table) (number_in r os) i a (places r os n ok i b) (λ j x y. stands j x (omega arith))
 
-  pub table-circle : (i : ℕ) → 1 ≤ i → i ≤ n → (1 ≤ number (width_of r) (entries table) i) × (number (width_of r) (entries table) i ≤ 1023)
+  pub there : length table ≡ 512 → reaches table w n ≡ true
+  there long =
+      let below : n < 2 ^ w = subst (λ k. n < 2 ^ k) (sym wide) (places r os n ok n (omega arith)) in
+      and_from (leb w 10) (ltb n (2 ^ w) && ltb n (length table)) (le-leb w 10 (omega (arith, width_narrow r)))
+      (and_from (ltb n (2 ^ w)) (ltb n (length table)) (lt-ltb n (2 ^ w) below) (lt-ltb n (length table) (omega (arith, few r os n ok, slots_small r (length os)))))
+
+  pub table-circle : (i : ℕ) → 1 ≤ i → i ≤ n → (1 ≤ number w (entries table) i) × (number w (entries table) i ≤ 1023)
   table-circle i a b =
       let e = same_numbers i a b in
       let c = on_circle r os n ok i a b in
       (omega (arith, c.0), omega (arith, c.1, full-below r))
 
-  pub table-set : (o : ℕ) (held : Bool) → set_of (member o held (width_of r) (entries table) n) ≡ set_of (member o held (width_of r) (number_in r os) n)
-  table-set o held = trees_same o held (width_of r) n (entries table) (number_in r os) (λ i l. places r os n ok i l) stands
+  pub table-set : (o : ℕ) (held : Bool) → set_of (member o held w (entries table) n) ≡ set_of (member o held (width_of r) (number_in r os) n)
+  table-set o held =
+      ap (λ k. set_of (member o held k (entries table) n)) wide
+      ∙ trees_same o held (width_of r) n (entries table) (number_in r os) (λ i l. places r os n ok i l) stands

@@ -1,5 +1,5 @@
 -- The distances of a set from its base, and their tree.
-use Rattle.std.proofs.Common.{◌≡◌, ℕ, zero, suc, ◌+◌, ◌-◌, ◌<◌, ◌≤◌, Bool, true, false, cond, not, ◌&&◌, T, eqb, List, length, get_or, sym, refl, ap, ◌∙◌, subst, ap₂, arith}
+use Rattle.std.proofs.Common.{◌≡◌, ℕ, zero, suc, ◌+◌, ◌-◌, ◌<◌, ◌≤◌, Bool, true, false, cond, not, ◌&&◌, T, eqb, List, length, get_or, Ok, Err, Result, sym, refl, ap, ◌∙◌, subst, ap₂, arith}
 use Rattle.std.proofs.lemmas.Bool.{ne_eqb, both_ways}
 use Rattle.bits.specs.Bits.{rising}
 use Rattle.bits.specs.Bits as bits
@@ -13,6 +13,7 @@ use Rattle.origins.proofs.Seen.{holds-seen}
 use Rattle.origins.proofs.Reach.{member_below}
 use Rattle.packing.specs.declared.Range.{Range}
 use Rattle.packing.specs.Ranges.{width_of}
+use Rattle.spread.specs.declared.SpreadFault.{SpreadFault}
 use Rattle.spread.specs.Members.{Listed, Fit, Outcome, among}
 use Rattle.spread.proofs.Counts.{among-has, among-at}
 use Rattle.tree.specs.Written.{full, tally, written}
@@ -104,10 +105,10 @@ module _ (K : ℕ) (ds : ChannelSet) (circle : (d : ℕ) → holds ds d ≡ true
           absurd (both_ways (holds ds q) e (ap (holds ds) (sym p.2) ∙ (rising_in (holds ds) 1024 p.0 (omega (arith, xs-long, p.1))).1))
 
   -- what the writer leaves in the table
-  pub planted : K ≤ 10 → size_of ds < 512 → (b : Bool) (ys members' before after : List ℕ) → ys ≡ xs → length before ≡ 512 → Outcome b K ys members' before after → Planted K ds after
-  planted w few false ys ms before after e long h =
+  pub planted : K ≤ 10 → size_of ds < 512 → (b : Result (Unit {0}) SpreadFault) (ys members' before after : List ℕ) → ys ≡ xs → length before ≡ 512 → Outcome b K ys members' before after → Planted K ds after
+  planted w few (Err f) ys ms before after e long h =
       let fits : Fit K ys before = subst (λ l. Fit K l before) (sym e) record { width = w; listed = listed; room = omega (arith, xs-long) } in
       absurd (h.0 fits)
-  planted w few true ys ms before after e long h =
+  planted w few (Ok u) ys ms before after e long h =
       let here : (i : ℕ) → 1 ≤ i → i ≤ length xs → get_or after i 0 ≡ written K (among xs) i = subst (λ l. (i : ℕ) → 1 ≤ i → i ≤ length l → get_or after i 0 ≡ written K (among l) i) e h.1.here in
       record { stands = λ i a b. here i a (omega (arith, xs-long)) ∙ same-stands K (among xs) (holds ds) (λ q x y. among_is q) i a }

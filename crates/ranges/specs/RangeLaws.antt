@@ -16,8 +16,8 @@ use Rattle.faults.specs.declared.FormatFault.{FormatFault}
 use Rattle.piles.specs.Flagged.{plain}
 use Rattle.piles.specs.Laws.{Octets, Lawful}
 use Rattle.piles.specs.Calls.{some-none}
-use Rattle.formats.specs.Format.{format_of}
-use Rattle.formats.specs.Formats.{Faithful, format_lawful}
+use Rattle.piles.specs.Codecs.{format_of}
+use Rattle.piles.specs.Faithful.{Faithful, format_lawful}
 use Rattle.packing.specs.declared.Range.{Range}
 use Rattle.packing.specs.declared.Range.TheVariants.{R1024, R512, R256, R128}
 use Rattle.packing.specs.Ranges.{width_of, start_of, least_of, longest, HasLength}

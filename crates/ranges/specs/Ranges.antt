@@ -5,7 +5,7 @@ use Rattle.channels.specs.declared.ChannelSet.{ChannelSet}
 use Rattle.channels.specs.Sets.{holds, set_of}
 use Rattle.faults.specs.declared.FormatFault.{FormatFault}
 use Rattle.piles.specs.Laws.{Claim}
-use Rattle.formats.specs.Format.{Codec}
+use Rattle.piles.specs.Codecs.{Codec}
 use Rattle.packing.specs.declared.Range.{Range}
 use Rattle.packing.specs.declared.Range.TheVariants.{R1024, R512, R256, R128}
 use Rattle.packing.specs.Ranges.{width_of, least_of, longest}
@@ -16,6 +16,10 @@ use Rattle.packing.specs.Writing.{packed, head_of}
 use Rattle.tree.specs.Number.{number}
 use Rattle.tree.specs.Written.{full, tally, written}
 use Rattle.origins.specs.Origins.{ahead, origin_of}
+
+-- the range whose first number has K bits
+abbrev pub range_at : ℕ → Range
+range_at K = cond (K == 7) R128 (cond (K == 8) R256 (cond (K == 9) R512 R1024))
 
 -- bits 8, 7, 4, 3, 2 of the first octet: 1 0 0 - -, 1 0 1 0 0, 1 0 1 0 1, 1 0 1 1 0
 abbrev pub claim_of : Range → Claim

@@ -1,20 +1,18 @@
 // The range formats of GSM 04.08: a list as a tree of numbers, each the distance of a channel from a base, told by the way to the root.
 #![tactic(auto)]
 
-ghost use Rattle.std.specs.Prelude.{◌≡◌, ℕ, ◌<◌, [], ◌∷◌};
+ghost use Rattle.std.specs.Prelude.{◌≡◌, ℕ, ◌<◌, ◌≤◌, [], ◌∷◌};
 ghost use Rattle.bits.specs.Bits.{bit_within};
 ghost use Rattle.claims.specs.Views.{claims};
-ghost use Rattle.formats.specs.Format.{format_of};
-ghost use Rattle.piles.specs.Laws.{Filled, Put};
 ghost use Rattle.packing.specs.declared.Range.TheVariants.{R1024, R512, R256, R128};
-ghost use Rattle.ranges.specs.Ranges.{range_codec, claim_of, fits_of};
-ghost use Rattle.ranges.specs.RangeLaws.{range_lawful};
+ghost use Rattle.ranges.specs.Ranges.{range_at, range_codec, claim_of, fits_of};
+ghost use Rattle.ranges.specs.RangeLaws.{range_faithful};
 
 use channels::ChannelSet;
 use claims::Claims;
 use faults::{FormatFault, PileFault};
 use packing::Range;
-use piles::{Pile, first_octet};
+use piles::format::Format;
 
 mod reading;
 mod writing;
@@ -61,122 +59,57 @@ fn has_length(range: Range, len: usize) -> bool
     least <= len && len <= piles::MOST
 }
 
-fn read_range(range: Range, contents: &[u8], set: &mut ChannelSet) -> Result<(), PileFault>
-    ensures { Filled ((format_of (range_codec range)).reads contents.now) result set.old set.new }
-{
-    let first = first_octet(contents)?;
-    if !is_claimed(range, first) {
-        return Err(PileFault::Unclaimed);
-    }
-    if !has_length(range, contents.len()) {
-        return Err(PileFault::Format(FormatFault::Length));
-    }
-    *set = reading::decode(range, contents)?;
-    Ok(())
-}
-
-fn write_range(
-    range: Range,
-    set: &ChannelSet,
-    len: usize,
-    out: &mut [u8; 130],
-) -> Result<(), PileFault>
-    ensures { Put ((format_of (range_codec range)).writes set.now len) len result out.old out.new }
-{
-    if !has_length(range, len) {
-        return Err(PileFault::Unwritten);
-    }
-    let Some(base) = writing::base_of(range, set) else {
-        return Err(PileFault::Unwritten);
-    };
-    if !writing::encode(range, set, base, len, out) {
-        return Err(PileFault::Unwritten);
-    }
-    Ok(())
-}
-
-// The four as piles: a type for each, so that a nest of piles says which it has.
-
+// A range by the width K of its first number, as a type of its own, so that a nest of piles says which it has.
 #[derive(Clone, Copy)]
-pub struct Range1024 {}
+pub struct RangeOf<const K: u32> {
+    ghost known: { (7 ≤ K) × (K ≤ 10) },
+}
 
-impl Pile for Range1024 {
-    ghost meaning = { λ _. format_of (range_codec R1024) };
+pub type Range1024 = RangeOf<10>;
 
-    ghost lawful = { λ p. range_lawful R1024 };
+pub type Range512 = RangeOf<9>;
 
-    fn claims(&self) -> Claims {
-        all_claimed(Range::R1024)
-    }
+pub type Range256 = RangeOf<8>;
 
-    fn read(&self, contents: &[u8], set: &mut ChannelSet) -> Result<(), PileFault> {
-        read_range(Range::R1024, contents, set)
-    }
+pub type Range128 = RangeOf<7>;
 
-    fn write(&self, set: &ChannelSet, len: usize, out: &mut [u8; 130]) -> Result<(), PileFault> {
-        write_range(Range::R1024, set, len, out)
+impl<const K: u32> RangeOf<K> {
+    fn range(&self) -> Range
+        ensures { result ≡ range_at K }
+    {
+        match K {
+            7 => Range::R128,
+            8 => Range::R256,
+            9 => Range::R512,
+            _ => Range::R1024,
+        }
     }
 }
 
-#[derive(Clone, Copy)]
-pub struct Range512 {}
+impl<const K: u32> Format for RangeOf<K> {
+    ghost codec = { λ _. range_codec (range_at K) };
 
-impl Pile for Range512 {
-    ghost meaning = { λ _. format_of (range_codec R512) };
+    ghost faithful = { λ _. range_faithful (range_at K) };
 
-    ghost lawful = { λ p. range_lawful R512 };
-
-    fn claims(&self) -> Claims {
-        all_claimed(Range::R512)
+    fn first_octets(&self) -> Claims {
+        all_claimed(self.range())
     }
 
-    fn read(&self, contents: &[u8], set: &mut ChannelSet) -> Result<(), PileFault> {
-        read_range(Range::R512, contents, set)
+    fn begins(&self, first: u8) -> bool {
+        is_claimed(self.range(), first)
     }
 
-    fn write(&self, set: &ChannelSet, len: usize, out: &mut [u8; 130]) -> Result<(), PileFault> {
-        write_range(Range::R512, set, len, out)
-    }
-}
-
-#[derive(Clone, Copy)]
-pub struct Range256 {}
-
-impl Pile for Range256 {
-    ghost meaning = { λ _. format_of (range_codec R256) };
-
-    ghost lawful = { λ p. range_lawful R256 };
-
-    fn claims(&self) -> Claims {
-        all_claimed(Range::R256)
+    fn has_length(&self, len: usize) -> bool {
+        has_length(self.range(), len)
     }
 
-    fn read(&self, contents: &[u8], set: &mut ChannelSet) -> Result<(), PileFault> {
-        read_range(Range::R256, contents, set)
+    fn decode(&self, contents: &[u8]) -> Result<ChannelSet, FormatFault> {
+        reading::decode(self.range(), contents)
     }
 
-    fn write(&self, set: &ChannelSet, len: usize, out: &mut [u8; 130]) -> Result<(), PileFault> {
-        write_range(Range::R256, set, len, out)
-    }
-}
-
-#[derive(Clone, Copy)]
-pub struct Range128 {}
-
-impl Pile for Range128 {
-    ghost meaning = { λ _. format_of (range_codec R128) };
-
-    ghost lawful = { λ p. range_lawful R128 };
-
-    fn claims(&self) -> Claims {
-        all_claimed(Range::R128)
-    }
-
-    fn read(&self, contents: &[u8], set: &mut ChannelSet) -> Result<(), PileFault> {
-        read_range(Range::R128, contents, set)
-    }
-
-    fn write(&self, set: &ChannelSet, len: usize, out: &mut [u8; 130]) -> Result<(), PileFault> {
-        write_range(Range::R128, set, len, out)
+    fn encode(&self, set: &ChannelSet, len: usize, out: &mut [u8; 130]) -> Result<(), PileFault> {
+        let range = self.range();
+        let base = writing::base_of(range, set).ok_or(PileFault::Unwritten)?;
+        writing::encode(range, set, base, len, out)
     }
 }

@@ -5,6 +5,7 @@ ghost use Rattle.ranges.specs.Ranges.{fits_of, base_of, tail_in, others_from};
 ghost use Rattle.ranges.specs.Writing.{Planted, Encoded};
 
 use channels::ChannelSet;
+use faults::PileFault;
 use origins::{origin, turned_down};
 use packing::{Range, head, pack, slots};
 
@@ -12,6 +13,7 @@ use packing::{Range, head, pack, slots};
 pub(crate) fn base_of(range: Range, set: &ChannelSet) -> Option<u16>
     ensures { result ≡ base_of range set.now }
 {
+    // an arm for each, since the reaches are the standard's own numbers: by the width, one arm would only hide them
     match range {
         Range::R1024 => Some(0),
         Range::R512 => origin(set, 511),
@@ -41,38 +43,40 @@ fn others_from(set: &ChannelSet, base: u16) -> ChannelSet
     turned
 }
 
-// Writes the tree of a set of distances to the places from 1 on of a table, and says how many numbers it has.
-fn plant(k: u32, distances: &ChannelSet, scratch: &mut [u16; 1024], table: &mut [u16; 512]) -> usize
+// Writes the tree of a set of distances to the places from 1 on of a table, and says how many numbers it has: the table is the caller's,
+// since the library has no memory of its own.
+fn plant(k: u32, distances: &ChannelSet, table: &mut [u16; 512]) -> usize
     requires narrow { k ≤ 10 }
     requires few { size_of distances.now < 512 }
     requires circle { (d : ℕ) → holds distances.now d ≡ true → (1 ≤ d) × (d ≤ full k) }
     ensures count { result ≡ size_of distances.now }
     ensures tree { Planted k distances.now table.new }
 {
-    let n = distances.members(scratch);
-    let _ = spread::write(&mut scratch[0..n], k, table);
+    let mut scratch = [0u16; 1024];
+    let n = distances.members(&mut scratch);
+    // they rise within the circle, and the table has room for them
+    let _ = spread::write(&mut scratch[..n], k, table);
     n
 }
 
-// Writes the set at the front of `out` if there are slots enough for it, and says whether it did.
+// Writes the set at the front of `out` if there are slots enough for it.
 pub(crate) fn encode(
     range: Range,
     set: &ChannelSet,
     base: u16,
     len: usize,
     out: &mut [u8; 130],
-) -> bool
+) -> Result<(), PileFault>
     requires base { base_of range set.now ≡ Some base }
     requires length { fits_of range len ≡ true }
     ensures { Encoded result range set.now base len out.old out.new }
 {
     let distances = others_from(set, base);
     if distances.size() > slots(range, len) {
-        return false;
+        return Err(PileFault::Unwritten);
     }
-    let mut scratch = [0u16; 1024];
     let mut table = [0u16; 512];
-    let n = plant(range.top_width(), &distances, &mut scratch, &mut table);
+    let n = plant(range.top_width(), &distances, &mut table);
     pack(
         range,
         head(range, tail(range, set, base)),
@@ -81,5 +85,5 @@ pub(crate) fn encode(
         len,
         out,
     );
-    true
+    Ok(())
 }

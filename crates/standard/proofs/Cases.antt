@@ -4,11 +4,11 @@ use Rattle.faults.specs.declared.PileFault.TheVariants.{Unwritten}
 use Rattle.bits.specs.Lowest.{lowest}
 use Rattle.bits.specs.Bits.{bit, bit_in, words_of, number_of}
 use Rattle.channels.specs.Sets.{holds, set_of}
-use Rattle.formats.specs.Formats.{format_lawful}
+use Rattle.piles.specs.Faithful.{format_lawful}
 use Rattle.formats.specs.MapLaws.{map_faithful}
 use Rattle.formats.specs.VariableLaws.{variable_faithful}
 use Rattle.formats.specs.BitMap0.{bit_map0}
-use Rattle.formats.specs.Format.{format_of}
+use Rattle.piles.specs.Codecs.{format_of}
 use Rattle.formats.specs.Variable.{variable}
 use Rattle.origins.specs.Origins.{can_origin, reaches}
 use Rattle.packing.specs.Fields.{bit_at, field, level, width, before}

@@ -3,7 +3,7 @@ use Rattle.std.specs.Prelude.{◌≡◌, None}
 use Rattle.claims.specs.Views.{shared}
 use Rattle.piles.specs.Laws.{Meaning}
 use Rattle.piles.specs.Combined.{beside_of}
-use Rattle.formats.specs.Format.{format_of}
+use Rattle.piles.specs.Codecs.{format_of}
 use Rattle.formats.specs.BitMap0.{bit_map0}
 use Rattle.formats.specs.Variable.{variable}
 use Rattle.packing.specs.declared.Range.{Range}

@@ -1,11 +1,13 @@
 // The standard pile: the six formats of GSM 04.08 beside one another, in the order in which they are tried.
 #![tactic(auto)]
 
-ghost use Rattle.standard.specs.Standard.{Apart};
+ghost use Rattle.std.specs.Prelude.{◌≡◌};
+ghost use Rattle.standard.specs.Standard.{Apart, standard as standard_pile};
 ghost use Rattle.standard.specs.Worked.{Worked};
 
 use formats::bitmap0::BitMap0;
 use formats::variable::Variable;
+use piles::Pile;
 use piles::beside::Beside;
 use ranges::{Range128, Range256, Range512, Range1024};
 
@@ -26,6 +28,7 @@ fn facts()
 {}
 
 pub fn standard() -> Standard
+    ensures meaning { ⟦<Standard as Pile>⟧.meaning result ≡ standard_pile }
     ensures apart { Apart }
     ensures worked { Worked }
 {

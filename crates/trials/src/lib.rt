@@ -4,7 +4,7 @@
 ghost use Rattle.std.specs.Prelude.{◌≡◌};
 ghost use Rattle.piles.specs.Laws.{Filled, Put};
 ghost use Rattle.piles.specs.Combined.{beside_of, licence_of};
-ghost use Rattle.formats.specs.Format.{format_of};
+ghost use Rattle.piles.specs.Codecs.{format_of};
 ghost use Rattle.formats.specs.BitMap0.{bit_map0};
 ghost use Rattle.mute.specs.Mute.{mute};
 

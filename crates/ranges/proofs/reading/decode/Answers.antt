@@ -1,36 +1,49 @@
-use Rattle.std.proofs.Common.{◌≡◌, ◌^◌, ◌<◌, ◌≤◌, length, Ok, sym, ap, ◌∙◌, subst, ap₂, arith}
+use Rattle.std.proofs.Common.{◌≡◌, length, Ok, sym, ap, ◌∙◌, ap₂, arith}
 use Rattle.channels.specs.Sets.{set_of}
 use Rattle.packing.specs.Reading.{unpacked}
-use Rattle.packing.proofs.Counts.{slots_small, width_narrow}
-use Rattle.tree.specs.Number.{number, entries}
+use Rattle.packing.proofs.Counts.{slots_small}
+use Rattle.tree.specs.Number.{entries}
 use Rattle.ranges.specs.Ranges.{base_in, base_held, member, range_read}
-use Rattle.ranges.proofs.Gathers.{table-circle, table-set}
-use Rattle.ranges.specs.Readings.{few, places}
-use Rattle.ranges.specs.RangeLaws.{base-below}
+use Rattle.ranges.specs.Readings.{few}
+use Rattle.ranges.proofs.Gathers.{there, table-circle, table-set}
 use Rattle.ranges.proofs.reading.decode.Goals as goal
 
-pub stand_for-requires : goal.stand_for-requires
-stand_for-requires c =
+pub stand_for-requires-clause-room : goal.stand_for-requires-clause-room
+stand_for-requires-clause-room c = omega (arith, few c.args.range c.args.contents.now c.in_ok-n.n (sym c.in_ok-n.ensures.value), slots_small c.args.range (length c.args.contents.now))
+
+pub stand_for-requires-clause-there : goal.stand_for-requires-clause-there
+stand_for-requires-clause-there c =
     let r = c.args.range in
     let os = c.args.contents.now in
     let n = c.in_ok-n.n in
+    let t = c.in-Ok.tree in
     let e = c.in_ok-n.ensures in
+    let is = c.in-Ok.ensures in
     let ok : unpacked r os ≡ Ok n = sym e.value in
-    let w = c.top_width.ensures in
-    record {
-      low = omega (arith, c.base.ensures, base-below r os);
-      narrow = omega (arith, width_narrow r);
-      places = (subst (λ k. n < 2 ^ k) (sym w) (places r os n ok n (omega arith)), omega (arith, few r os n ok, slots_small r (length os)));
-      circle = λ i a b. subst (λ k. (1 ≤ number k (entries c.unpack.new.numbers) i) × (number k (entries c.unpack.new.numbers) i ≤ 1023)) (sym w) (table-circle r os c.unpack.new.numbers n ok e.meaning.stands i a b);
-    }
+    rw is.0 (there r os c.unpack.new.numbers n ok e.meaning.stands t.width (is.1 ∙ c.top_width.ensures) c.unpack.array_long)
+
+pub stand_for-requires-clause-circle : goal.stand_for-requires-clause-circle
+stand_for-requires-clause-circle c i a b =
+    let r = c.args.range in
+    let os = c.args.contents.now in
+    let n = c.in_ok-n.n in
+    let t = c.in-Ok.tree in
+    let e = c.in_ok-n.ensures in
+    let is = c.in-Ok.ensures in
+    let ok : unpacked r os ≡ Ok n = sym e.value in
+    rw is.0 (table-circle r os c.unpack.new.numbers n ok e.meaning.stands t.width (is.1 ∙ c.top_width.ensures) i a b)
 
 pub returns : goal.returns
 returns c =
     let r = c.args.range in
     let os = c.args.contents.now in
     let n = c.in_ok-n.n in
+    let t = c.in-Ok.tree in
     let e = c.in_ok-n.ensures in
+    let is = c.in-Ok.ensures in
+    let b = c.of.ensures in
     let ok : unpacked r os ≡ Ok n = sym e.value in
-    let t = entries c.unpack.new.numbers in
-    ap Ok (c.stand_for.ensures ∙ ap₂ (λ b h. set_of (member b h c.top_width.result t n)) c.base.ensures c.base_held.ensures ∙ ap (λ k. set_of (member (base_in r os) (base_held r os) k t n)) c.top_width.ensures ∙ table-set r os c.unpack.new.numbers n ok e.meaning.stands (base_in r os) (base_held r os))
+    ap Ok (c.stand_for.ensures
+    ∙ ap₂ (λ o h. set_of (member o h t.width (entries t.table.now) n)) b.channel b.held
+    ∙ rw is.0 (table-set r os c.unpack.new.numbers n ok e.meaning.stands t.width (is.1 ∙ c.top_width.ensures) (base_in r os) (base_held r os)))
     ∙ ap (range_read r os) (sym ok)

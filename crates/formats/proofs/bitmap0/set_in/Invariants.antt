@@ -1,7 +1,7 @@
 use Rattle.std.proofs.Common.{◌≡◌, ℕ, ◌-◌, ◌*◌, ◌<◌, ◌&&◌, ltb}
 use Rattle.channels.specs.Sets.{holds}
 use Rattle.formats.specs.BitMap0.{map_bit}
-use Rattle.formats.proofs.bitmap0.decode.Given as goal
+use Rattle.formats.proofs.bitmap0.set_in.Given as goal
 
 -- the octets before i are in the set
 abbrev pub invariant-loop-i : goal.invariant-loop-i

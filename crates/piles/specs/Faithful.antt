@@ -11,7 +11,7 @@ use Rattle.piles.specs.Flagged.{plain}
 use Rattle.piles.specs.Laws.{sized, Lawful, Octets, number}
 use Rattle.piles.specs.Calls.{err_ok, err_same, ok_same}
 use Rattle.piles.specs.Combine.{cond_ok, cond_err, cond_is_true, cond_is_false, sized-true}
-use Rattle.formats.specs.Format.{Codec, carried, or_unwritten, reads_by, writes_by, format_of}
+use Rattle.piles.specs.Codecs.{Codec, carried, or_unwritten, reads_by, writes_by, format_of}
 
 -- what is owed of a format
 pub record Faithful (k : Codec) : Type 0 where

@@ -3,19 +3,19 @@ use Rattle.channels.specs.declared.ChannelSet.{ChannelSet}
 use Rattle.channels.specs.Sets.{holds, put}
 use Rattle.channels.proofs.Views.{changed}
 use Rattle.ranges.proofs.Gathers.{gather_none, gather_more, gather_all}
-use Rattle.ranges.proofs.reading.gather.Goals as goal
+use Rattle.ranges.proofs.reading.Base.gather.Goals as goal
 
 pub loop-d-init : goal.loop-d-init
-loop-d-init c k l = c.zero_if-set.ensures k ∙ gather_none c.args.distances.now c.args.held k
+loop-d-init c k l = c.zero_if-set.ensures k ∙ gather_none c.args.distances.now c.args.self.held k
 
 pub loop-d-preserved : goal.loop-d-preserved
 loop-d-preserved c k l =
     let ds = c.args.distances.now in
     let j = c.loop-d.d-index in
-    let v = c.requires.circle j c.loop-d-test.true in
+    let v = c.requires j c.loop-d-test.true in
     ap (λ (s : ChannelSet). holds s k) (changed (get_or ds j 0) c.add.result _ (put c.loop-d.set (get_or ds j 0) true) _ v.1 c.add.ensures)
-    ∙ gather_more ds c.args.held j c.loop-d.set v c.loop-d.invariant k l
+    ∙ gather_more ds c.args.self.held j c.loop-d.set v c.loop-d.invariant k l
 
 pub returns : goal.returns
 returns c =
-    gather_all c.args.distances.now c.args.held c.args.base c.loop-d.d-index c.loop-d.set c.turned_up.result c.requires.low (omega arith) c.loop-d.invariant c.turned_up.ensures.value
+    gather_all c.args.distances.now c.args.self.held c.args.self.channel c.loop-d.d-index c.loop-d.set c.turned_up.result c.args.self.low (omega arith) c.loop-d.invariant c.turned_up.ensures.value

@@ -3,7 +3,7 @@ use Rattle.channels.specs.declared.ChannelSet.{ChannelSet}
 use Rattle.channels.specs.Sets.{holds, put_eight}
 use Rattle.channels.proofs.Views.{changed}
 use Rattle.formats.proofs.MapCalls.{octet_more, none-put, all-put}
-use Rattle.formats.proofs.bitmap0.decode.Goals as goal
+use Rattle.formats.proofs.bitmap0.set_in.Goals as goal
 
 pub loop-i-init : goal.loop-i-init
 loop-i-init c k l = ap (λ (s : ChannelSet). holds s k) c.new-set.ensures.empty ∙ none-put c.args.contents.now k
