@@ -5,48 +5,68 @@ use formats::bitmap0::BitMap0;
 use plans::Tally;
 use plans::reporting::answer;
 use std::process::ExitCode;
-use std::{env, fs, io};
+use std::{env, fmt, fs, io};
 
-const USAGE: &'static str =
-    "usage: depot compose PLAN    compose the channel list of each cell of a plan
+const USAGE: &str = "usage: depot compose PLAN    compose the channel list of each cell of a plan
        depot help            say this
 PLAN is a file name, or - for standard input. Each of its lines is a cell and its channels:
 1234:00AB 1-5 17 124    # and a comment
 ";
 
-enum Command {
-    Help,
-    Compose(String),
-    Wrong,
+// Where a plan is read from.
+#[derive(Drop)]
+enum Source {
+    Input,
+    File(String),
 }
 
-// What the arguments ask for.
-fn asked(rt: &HostRuntime) -> io::Result<Command> {
+#[derive(Drop)]
+enum Command {
+    Help,
+    Compose(Source),
+}
+
+impl Source {
+    fn of(name: String) -> Source {
+        if name.as_str() == "-" {
+            Source::Input
+        } else {
+            Source::File(name)
+        }
+    }
+
+    fn read(&self, rt: &HostRuntime) -> io::Result<String> {
+        match self {
+            Source::Input => io::read_to_string(rt.alloc(), rt.stdin()),
+            Source::File(name) => fs::read_to_string(rt, name.as_str()),
+        }
+    }
+}
+
+impl fmt::Display for Source {
+    fn fmt<W: fmt::Write>(&self, f: &mut fmt::Formatter<W>) -> fmt::Result {
+        match self {
+            Source::Input => f.write_str("standard input"),
+            Source::File(name) => f.write_str(name.as_str()),
+        }
+    }
+}
+
+// What the arguments ask for, if they ask for anything that can be done.
+fn asked(rt: &HostRuntime) -> io::Result<Option<Command>> {
     let mut args = env::args(rt)?;
     let _program = args.next();
     let Some(verb) = args.next() else {
-        return Ok(Command::Help);
+        return Ok(Some(Command::Help));
     };
     let word = args.next();
     if args.next().is_some() {
-        return Ok(Command::Wrong);
+        return Ok(None);
     }
     match (verb.as_str(), word) {
-        ("help", None) => Ok(Command::Help),
-        ("compose", Some(plan)) => Ok(Command::Compose(plan)),
-        _ => Ok(Command::Wrong),
-    }
-}
-
-fn shown_name(plan: &str) -> &str {
-    if plan == "-" { "standard input" } else { plan }
-}
-
-fn plan_text(rt: &HostRuntime, plan: &str) -> io::Result<String> {
-    if plan == "-" {
-        io::read_to_string(rt.alloc(), rt.stdin())
-    } else {
-        fs::read_to_string(rt, plan)
+        ("help", None) => Ok(Some(Command::Help)),
+        ("compose", Some(plan)) => Ok(Some(Command::Compose(Source::of(plan)))),
+        _ => Ok(None),
     }
 }
 
@@ -62,33 +82,42 @@ fn compose(rt: &HostRuntime, text: &str) -> io::Result<Tally> {
     Ok(tally)
 }
 
-// Does what is asked, and says whether all went well.
-fn run(rt: &HostRuntime) -> io::Result<bool> {
+// Composes a plan; the status tells whether every line was taken.
+fn run_plan(rt: &HostRuntime, plan: &Source) -> io::Result<ExitCode> {
+    match plan.read(rt) {
+        Ok(text) => {
+            let tally = compose(rt, text.as_str())?;
+            Ok(if tally.is_clean() {
+                ExitCode::SUCCESS
+            } else {
+                ExitCode::FAILURE
+            })
+        }
+        Err(error) => {
+            eprintln!(rt; "depot: {plan} cannot be read: {error}")?;
+            Ok(ExitCode::FAILURE)
+        }
+    }
+}
+
+fn run(rt: &HostRuntime) -> io::Result<ExitCode> {
     match asked(rt)? {
-        Command::Help => {
+        Some(Command::Help) => {
             rt.print(USAGE)?;
-            Ok(true)
+            Ok(ExitCode::SUCCESS)
         }
-        Command::Wrong => {
+        Some(Command::Compose(plan)) => run_plan(rt, &plan),
+        None => {
             rt.eprint(USAGE)?;
-            Ok(false)
+            Ok(ExitCode::FAILURE)
         }
-        Command::Compose(plan) => match plan_text(rt, plan.as_str()) {
-            Ok(text) => Ok(compose(rt, text.as_str())?.is_clean()),
-            Err(error) => {
-                let name = shown_name(plan.as_str());
-                eprintln!(rt; "depot: {name} cannot be read: {error}")?;
-                Ok(false)
-            }
-        },
     }
 }
 
 // Where it did not go well, what there was to say is said, and the status is 1.
 fn main(rt: HostRuntime) -> ExitCode {
     match run(&rt) {
-        Ok(true) => ExitCode::SUCCESS,
-        Ok(false) => ExitCode::FAILURE,
+        Ok(status) => status,
         Err(error) => {
             let _ = eprintln!(rt; "depot: {error}");
             ExitCode::FAILURE

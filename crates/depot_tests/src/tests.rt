@@ -16,7 +16,7 @@ fn says(
     text: &str,
 ) -> Result<(), Fail> {
     let answer = answer(heap, &BitMap0 {}, 7, line)?;
-    assert_eq!(rt; answer.verdict as u8, verdict as u8);
+    assert_eq!(rt; answer.verdict, verdict);
     assert_eq!(rt; answer.text.as_str(), text);
     Ok(())
 }
@@ -128,10 +128,7 @@ fn blank_lines_are_passed_over(rt: HostRuntime) -> Result<(), Fail> {
 
 // What a text of octets is read as, if it is one.
 fn octets(heap: Global, text: &[u8]) -> Result<Vec<u8>, Fail> {
-    match hex::read(heap, text) {
-        Ok(octets) => Ok(octets),
-        Err(_) => Err(Fail::new("these are no octets")),
-    }
+    hex::read(heap, text).map_err(|_| Fail::new("these are no octets"))
 }
 
 #[test]

@@ -67,8 +67,8 @@ number_read n ds h f =
     cond-false _ _ _ (ne_eqb (digits ds) 0 (λ e. omega (arith, f.some)))
     ∙ cond-true _ _ _ (eq-eqb (digits ds) (length ds) long) ∙ ap Ok (f.value h)
 
-pub number-back : NumberBack
-number-back n h = number_read n (decimal n) h (figures n h)
+pub number_back : NumberBack
+number_back n h = number_read n (decimal n) h (figures n h)
 
 -- a range
 module _ (low high : ℕ) (order : low ≤ high) (small : high < 65536) where

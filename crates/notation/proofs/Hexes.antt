@@ -1,20 +1,10 @@
--- Hexadecimal digits and octets.
-use Rattle.std.proofs.Common.{◌≡◌, ℕ, ◌+◌, ◌<◌, ◌≤◌, true, false, List, [], ◌∷◌, ◌++◌, length, get_or, drop, Some, None, Ok, Err, Result, sym, refl, ap, ◌∙◌, ⊎_elim, append_assoc, append-nil, arith}
-use Rattle.std.proofs.lemmas.List.{get_or_past, get_or-drop, drop_more, drop_all, drop-drop}
-use Rattle.std.proofs.lemmas.Bool.{cases_lt, cond-true, cond-false}
+-- Octets read from the front of a text.
+use Rattle.std.proofs.Common.{◌≡◌, ℕ, ◌+◌, ◌-◌, ◌<◌, ◌≤◌, true, false, List, [], ◌∷◌, ◌++◌, length, get_or, drop, length-drop, Ok, Err, Result, sym, refl, ap, ◌∙◌, append_assoc, arith}
+use Rattle.std.proofs.lemmas.List.{get_or-drop, drop-drop}
+use Rattle.std.proofs.lemmas.Bool.{cond-true, cond-false}
 use Rattle.notation.specs.declared.WordFault.{WordFault}
-use Rattle.notation.specs.Codes.{hex_of}
 use Rattle.notation.specs.Numbers.{and_then}
 use Rattle.notation.specs.Octets.{blank, pair_at, before, octets_from}
-
--- past a word there is no digit
-pub hex-within : (bs : List ℕ) (i d : ℕ) → hex_of (get_or bs i 0) ≡ Some d → i < length bs
-hex-within bs i d e =
-    ⊎_elim (λ h. h) (λ h. let n : None ≡ Some d = ap hex_of (sym (get_or_past bs i 0 h)) ∙ e in let z : ◌≡◌ {A = ℕ} 0 1 = cc in absurd (omega arith)) (cases_lt i (length bs))
-
--- nor is there a byte other than 0
-pub byte_within : (bs : List ℕ) (i b : ℕ) → get_or bs i 0 ≡ b → 0 < b → i < length bs
-byte_within bs i b e some = ⊎_elim (λ h. h) (λ h. absurd (omega (arith, get_or_past bs i 0 h))) (cases_lt i (length bs))
 
 -- one step of a reading, at the front of a text
 pub skip_blank : (at c : ℕ) (cs : List ℕ) → blank c ≡ true → octets_from at (c ∷ cs) ≡ octets_from (at + 1) cs
@@ -29,28 +19,41 @@ pub before-before : (os ps : List ℕ) (r : Result (List ℕ) WordFault) → bef
 before-before os ps (Ok more) = ap Ok (sym (append_assoc os ps more))
 before-before os ps (Err f) = refl
 
--- and at a place
-module _ (bs : List ℕ) (i : ℕ) (h : i < length bs) where
-  pub at-blank : blank (get_or bs i 0) ≡ true → octets_from i (drop i bs) ≡ octets_from (i + 1) (drop (i + 1) bs)
-  at-blank e = ap (octets_from i) (drop_more bs i 0 h) ∙ skip_blank i (get_or bs i 0) (drop (i + 1) bs) e
+-- and where what is left of a text begins with c
+module _ (text rest cs : List ℕ) (c : ℕ) (short : length rest ≤ length text) (end : rest ≡ drop (length text - length rest) text) (is : rest ≡ c ∷ cs) where
+  abbrev place : ℕ
+  place = length text - length rest
 
-  at_pair : blank (get_or bs i 0) ≡ false → octets_from i (drop i bs) ≡ and_then (pair_at i (get_or bs i 0) (get_or bs (i + 1) 0)) (λ o. before (o ∷ []) (octets_from (i + 2) (drop (i + 2) bs)))
-  at_pair e =
-      ap (octets_from i) (drop_more bs i 0 h) ∙ take_pair i (get_or bs i 0) (drop (i + 1) bs) e
-      ∙ (λ j. and_then (pair_at i (get_or bs i 0) ((get_or-drop (i + 1) bs 0 0 ∙ ap (λ k. get_or bs k 0) next) j)) (λ o. before (o ∷ []) (octets_from (i + 2) ((drop-drop 1 (i + 1) bs ∙ ap (λ k. drop k bs) two) j))))
-    where
-      next : i + 1 + 0 ≡ i + 1
-      next = omega arith
+  next : length text - length cs ≡ place + 1
+  next = omega (arith, ap length is)
 
-      two : i + 1 + 1 ≡ i + 2
-      two = omega arith
+  first : get_or text place 0 ≡ c
+  first = let zero_more : place + 0 ≡ place = omega arith in sym (get_or-drop place text 0 0 ∙ ap (λ k. get_or text k 0) zero_more) ∙ ap (λ l. get_or l 0 0) (sym end ∙ is)
 
-  pub after_pair : (os : List ℕ) (o : ℕ) → blank (get_or bs i 0) ≡ false → Ok o ≡ pair_at i (get_or bs i 0) (get_or bs (i + 1) 0) → before (os ++ o ∷ []) (octets_from (i + 2) (drop (i + 2) bs)) ≡ before os (octets_from i (drop i bs))
-  after_pair os o e p =
-      sym (before-before os (o ∷ []) _) ∙ ap (before os) (ap (λ r. and_then r (λ o. before (o ∷ []) (octets_from (i + 2) (drop (i + 2) bs)))) p ∙ sym (at_pair e))
+  second : get_or text (place + 1) 0 ≡ get_or cs 0 0
+  second = sym (get_or-drop place text 1 0) ∙ ap (λ l. get_or l 1 0) (sym end ∙ is)
 
-  pub bad_pair : (os : List ℕ) (f : WordFault) → blank (get_or bs i 0) ≡ false → Err f ≡ pair_at i (get_or bs i 0) (get_or bs (i + 1) 0) → before os (octets_from i (drop i bs)) ≡ Err f
-  bad_pair os f e p = ap (before os) (at_pair e ∙ ap (λ r. and_then r (λ o. before (o ∷ []) (octets_from (i + 2) (drop (i + 2) bs)))) (sym p))
+  pub end_next : cs ≡ drop (length text - length cs) text
+  end_next = ap (drop 1) (sym is ∙ end) ∙ drop-drop 1 place text ∙ ap (λ k. drop k text) (sym next)
 
-pub no_more : (bs os : List ℕ) (i : ℕ) → length bs ≤ i → before os (octets_from i (drop i bs)) ≡ Ok os
-no_more bs os i h = ap (λ l. before os (octets_from i l)) (drop_all i bs h) ∙ ap Ok (append-nil os)
+  pub after_blank : (os : List ℕ) → blank c ≡ true → before os (octets_from (length text - length cs) cs) ≡ before os (octets_from place rest)
+  after_blank os e = ap (λ k. before os (octets_from k cs)) next ∙ ap (before os) (sym (ap (octets_from place) is ∙ skip_blank place c cs e))
+
+  pair : blank c ≡ false → octets_from place rest ≡ and_then (pair_at place (get_or text place 0) (get_or text (place + 1) 0)) (λ o. before (o ∷ []) (octets_from (place + 2) (drop 1 cs)))
+  pair e =
+      ap (octets_from place) is ∙ take_pair place c cs e
+      ∙ (λ j. and_then (pair_at place (sym first j) (sym second j)) (λ o. before (o ∷ []) (octets_from (place + 2) (drop 1 cs))))
+
+  module _ (new : List ℕ) (behind : new ≡ drop 1 cs) (some : 0 < length cs) where
+    last : length text - length new ≡ place + 2
+    last = omega (arith, ap length is, ap length behind, length-drop 1 cs)
+
+    pub end_last : new ≡ drop (length text - length new) text
+    end_last =
+        let one : length text - length cs + 1 ≡ place + 2 = omega (arith, next) in
+        behind ∙ ap (drop 1) end_next ∙ drop-drop 1 (length text - length cs) text ∙ ap (λ k. drop k text) (one ∙ sym last)
+
+    pub after_pair : (os : List ℕ) (o : ℕ) → blank c ≡ false → Ok o ≡ pair_at place (get_or text place 0) (get_or text (place + 1) 0) → before (os ++ o ∷ []) (octets_from (length text - length new) new) ≡ before os (octets_from place rest)
+    after_pair os o e p =
+        (λ j. before (os ++ o ∷ []) (octets_from (last j) (behind j))) ∙ sym (before-before os (o ∷ []) _)
+        ∙ ap (before os) (ap (λ r. and_then r (λ o. before (o ∷ []) (octets_from (place + 2) (drop 1 cs)))) p ∙ sym (pair e))

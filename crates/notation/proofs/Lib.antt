@@ -1,5 +1,5 @@
 pub mod Scans
-pub mod Spacing
+pub mod Written
 pub mod Hexes
 pub mod OctetsBack
 pub mod Runs

@@ -6,3 +6,4 @@ pub mod Hex
 pub mod Told
 pub mod Lists
 pub mod Back
+pub mod Reads

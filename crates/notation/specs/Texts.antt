@@ -1,11 +1,11 @@
 -- Values as text.
-use Rattle.std.specs.Prelude.{ℕ, ◌+◌, ◌/◌, ◌%◌, cond, List, [], ◌∷◌, ◌++◌, drop, nat_lt}
+use Rattle.std.specs.Prelude.{ℕ, ◌+◌, ◌/◌, ◌%◌, if◌then◌else◌, List, [], ◌∷◌, ◌++◌, drop, nat_lt}
 use Rattle.std.specs.List.{flat_map}
 use Rattle.notation.specs.declared.Cell.{Cell}
 
 -- the upper-case digit of a number below 16
 abbrev pub hex_char : ℕ → ℕ
-hex_char d = cond (nat_lt d 10) (48 + d) (55 + d)
+hex_char d = if nat_lt d 10 then 48 + d else 55 + d
 
 -- a code in four digits
 abbrev pub code_text : ℕ → List ℕ
@@ -21,10 +21,6 @@ blanked f xs = flat_map (λ x. 32 ∷ f x) xs
 -- words with a blank between two
 abbrev pub spaced : {X : Type 0} → (X → List ℕ) → List X → List ℕ
 spaced f xs = drop 1 (blanked f xs)
-
--- what stands before word i of such a text
-abbrev pub gap_before : ℕ → List ℕ
-gap_before i = cond (nat_lt 0 i) (32 ∷ []) []
 
 -- an octet in two digits, and octets
 abbrev pub octet_text : ℕ → List ℕ

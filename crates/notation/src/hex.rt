@@ -7,34 +7,19 @@ ghost use Rattle.notation.specs.Octets.{blank, pair_at, octets_of, OctetLaws};
 ghost use Rattle.notation.specs.Hex.{Read};
 ghost use Rattle.notation.specs.Texts.{hex_char, code_text, cell_text, octet_text, hex_text};
 
-use crate::{Cell, Expected, WordFault, blank_before, fault};
-use std::alloc::{AllocError, AllocFailed, Global};
+use crate::{Cell, Expected, WordFault};
+use std::alloc::{AllocFailed, Global};
 use std::fmt;
-
-// The number of the digit A.
-const TEN: u8 = 10;
 
 const SPACE: u8 = b' ';
 
 const TAB: u8 = b'\t';
 
 // What a hexadecimal digit of either case stands for.
-fn hex_digit(b: u8) -> Option<u8>
+fn digit(b: u8) -> Option<u32>
     ensures { result ≡ hex_of b }
 {
-    match b {
-        b'0'..=b'9' => Some(b - b'0'),
-        b'A'..=b'F' => Some(b - b'A' + 10),
-        b'a'..=b'f' => Some(b - b'a' + 10),
-        _ => None,
-    }
-}
-
-// The byte at a place of a word, and 0 past its end.
-pub(crate) fn byte_at(word: &[u8], i: usize) -> u8
-    ensures { result ≡ slice_index word.now i }
-{
-    if i < word.len() { word[i] } else { 0 }
+    char::from(b).to_digit(16)
 }
 
 // The hexadecimal digit at a place of a word.
@@ -44,39 +29,9 @@ pub(crate) fn digit_at(word: &[u8], i: usize) -> Result<u16, WordFault>
     ensures within { OnOk result (i < length word.now) }
     ensures place { IfErr result (λ f. f.offset ≡ i) }
 {
-    match hex_digit(byte_at(word, i)) {
+    match word.get(i).copied().and_then(digit) {
         Some(d) => Ok(d as u16),
-        None => fault(i, Expected::HexDigit),
-    }
-}
-
-// The upper-case digit of a number below 16.
-fn hex_char(d: u8) -> char
-    requires { d < 16 }
-    ensures value { result ≡ hex_char d }
-    ensures spelt { encode result ≡ hex_char d ∷ [] }
-{
-    if d < TEN {
-        (b'0' + d) as char
-    } else {
-        (b'A' + (d - TEN)) as char
-    }
-}
-
-// A code as its four digits.
-#[derive(Clone, Copy)]
-struct Code(u16);
-
-impl fmt::Display for Code {
-    ghost output = { λ c. Some (code_text c.0) };
-
-    fn fmt<W: fmt::Write>(&self, f: &mut fmt::Formatter<W>) -> fmt::Result {
-        let n = self.0;
-        let a = hex_char((n / 4096) as u8);
-        let b = hex_char((n / 256 % 16) as u8);
-        let c = hex_char((n / 16 % 16) as u8);
-        let d = hex_char((n % 16) as u8);
-        write!(f, "{a}{b}{c}{d}")
+        None => Err(Expected::HexDigit.at(i)),
     }
 }
 
@@ -85,41 +40,48 @@ impl fmt::Display for Cell {
     ghost output = { λ c. Some (cell_text c) };
 
     fn fmt<W: fmt::Write>(&self, f: &mut fmt::Formatter<W>) -> fmt::Result {
-        let lac = Code(self.lac);
-        let ci = Code(self.ci);
-        write!(f, "{lac}:{ci}")
+        let lac = self.lac;
+        let ci = self.ci;
+        write!(f, "{lac:04X}:{ci:04X}")
     }
 }
 
-// Puts the two digits of an octet behind a text.
-fn push_octet(text: &mut String, o: u8) -> Result<(), AllocError>
-    ensures { OnOk result (string_bytes text.new ≡ string_bytes text.old ++ octet_text o) }
-{
-    text.push(hex_char(o / 16))?;
-    text.push(hex_char(o % 16))?;
-    Ok(())
-}
+// An octet in two upper-case digits.
+#[derive(Clone, Copy)]
+struct Octet(u8);
 
-fn spell(heap: Global, octets: &[u8]) -> Result<String, AllocError>
-    ensures { IfOk result (λ s. string_bytes s ≡ hex_text octets.now) }
-{
-    let mut text = String::new(heap);
-    for (i, o) in octets.iter().enumerate() {
-        blank_before(&mut text, i)?;
-        push_octet(&mut text, *o)?;
+impl fmt::Display for Octet {
+    ghost output = { λ o. Some (octet_text o.0) };
+
+    fn fmt<W: fmt::Write>(&self, f: &mut fmt::Formatter<W>) -> fmt::Result {
+        let o = self.0;
+        write!(f, "{o:02X}")
     }
-    Ok(text)
 }
 
-// Octets as text: two upper-case digits each, with a blank between two.
-pub fn write(heap: Global, octets: &[u8]) -> Result<String, AllocError>
-    ensures { IfOk result (λ s. string_bytes s ≡ hex_text octets.now) }
-{
-    spell(heap, octets)
+// Octets as text, with a blank between two.
+#[derive(Clone, Copy)]
+pub struct Hex<'a>(pub &'a [u8]);
+
+impl fmt::Display for Hex<'_> {
+    ghost output = { λ h. Some (hex_text h.0.now) };
+
+    fn fmt<W: fmt::Write>(&self, f: &mut fmt::Formatter<W>) -> fmt::Result {
+        let Some((first, others)) = self.0.split_first() else {
+            return Ok(());
+        };
+        let first = Octet(*first);
+        write!(f, "{first}")?;
+        for o in others {
+            let o = Octet(*o);
+            write!(f, " {o}")?;
+        }
+        Ok(())
+    }
 }
 
 // Why a text gives no octets.
-#[derive(Drop)]
+#[derive(Clone, Copy, Debug, PartialEq, Eq)]
 pub enum HexFault {
     Word(WordFault),
     Memory,
@@ -159,32 +121,21 @@ fn octet_at(text: &[u8], i: usize) -> Result<u8, WordFault>
     Ok((high * 16 + low) as u8)
 }
 
-fn octets(heap: Global, text: &[u8]) -> Result<Vec<u8>, HexFault>
-    ensures { Read (octets_of text.now) result }
-{
-    let mut octets = Vec::new(heap);
-    let mut i = 0;
-    while i < text.len() {
-        if is_blank(text[i]) {
-            i += 1;
-        } else {
-            octets.push(octet_at(text, i)?)?;
-            i += 2;
-        }
-    }
-    Ok(octets)
-}
-
-// What is written of octets is read as them: a fact that a call can bring in.
-fn laws()
-    ensures { OctetLaws }
-{}
-
 // Reads octets of two digits each, with or without blanks before, between and behind them.
+#[tactic(auto, using(crate::proofs::OctetsBack::octet_laws))]
 pub fn read(heap: Global, text: &[u8]) -> Result<Vec<u8>, HexFault>
     ensures value { Read (octets_of text.now) result }
     ensures laws { OctetLaws }
 {
-    laws();
-    octets(heap, text)
+    let mut octets = Vec::new(heap);
+    let mut rest = text;
+    while let Some((first, behind)) = rest.split_first() {
+        if is_blank(*first) {
+            rest = behind;
+        } else {
+            octets.push(octet_at(text, text.len() - rest.len())?)?;
+            rest = &behind[1..];
+        }
+    }
+    Ok(octets)
 }

@@ -6,16 +6,10 @@ pub mod lists;
 pub mod told;
 pub mod words;
 
-ghost use Rattle.std.specs.Prelude.{◌≡◌, ◌++◌, Err, string_bytes, OnOk};
-ghost use Rattle.notation.specs.Texts.{gap_before};
-
-use std::alloc::AllocError;
-
-// The place of the first word of a text.
-const FIRST: usize = 0;
+ghost use Rattle.std.specs.Prelude.{◌≡◌};
 
 // What a word should have had where it went wrong.
-#[derive(Clone, Copy)]
+#[derive(Clone, Copy, Debug, PartialEq, Eq)]
 pub enum Expected {
     // a decimal digit
     Digit,
@@ -36,38 +30,34 @@ pub enum Expected {
 }
 
 // What is wrong with a word: the place of the byte at fault, the first being 0, and what should have stood there.
-#[derive(Clone, Copy)]
+#[derive(Clone, Copy, Debug, PartialEq, Eq)]
 pub struct WordFault {
     pub offset: usize,
     pub expected: Expected,
 }
 
-// The channels from one to another, both included.
-#[derive(Clone, Copy)]
+// The channels from one to another, both included. The order is no part of the type: any two numbers can be printed.
+#[derive(Clone, Copy, Debug, PartialEq, Eq)]
 pub struct Span {
     pub low: u16,
     pub high: u16,
 }
 
 // A cell by its location area code and its cell identity.
-#[derive(Clone, Copy)]
+#[derive(Clone, Copy, Debug, PartialEq, Eq)]
 pub struct Cell {
     pub lac: u16,
     pub ci: u16,
 }
 
-pub(crate) fn fault<T>(offset: usize, expected: Expected) -> Result<T, WordFault>
-    ensures { result ≡ Err (record { offset = offset; expected = expected }) }
-{
-    Err(WordFault { offset, expected })
-}
-
-// A blank behind a text, unless its first word is to come.
-pub(crate) fn blank_before(text: &mut String, i: usize) -> Result<(), AllocError>
-    ensures { OnOk result (string_bytes text.new ≡ string_bytes text.old ++ gap_before i) }
-{
-    if i > FIRST {
-        text.push(' ')?;
+impl Expected {
+    // The fault of a word that should have had this at a place.
+    pub(crate) fn at(self, offset: usize) -> WordFault
+        ensures { result ≡ record { offset = offset; expected = self } }
+    {
+        WordFault {
+            offset,
+            expected: self,
+        }
     }
-    Ok(())
 }

@@ -1,14 +1,12 @@
 // Words that are read: numbers, ranges and cells.
-ghost use Rattle.std.specs.Prelude.{◌≡◌, ℕ, ◌+◌, ◌*◌, ◌^◌, ◌<◌, ◌≤◌, length, IfOk, IfErr, OnOk};
-ghost use Rattle.notation.specs.Numbers.{capped, digits, amount, number_of, high_of, span_of};
-ghost use Rattle.notation.specs.Back.{NumberBack, RangeBack, CodeBack, CellBack};
-ghost use Rattle.notation.specs.Codes.{four_at, code_of, cell_of};
+ghost use Rattle.std.specs.Prelude.{◌≡◌, ℕ, ◌+◌, ◌^◌, ◌<◌, ◌≤◌, length, IfOk, IfErr, OnOk};
+ghost use Rattle.notation.specs.Numbers.{capped, digits, amount, number_of, high_of};
+ghost use Rattle.notation.specs.Back.{NumberBack, CodeBack};
+ghost use Rattle.notation.specs.Codes.{four_at, code_of};
+ghost use Rattle.notation.specs.Reads.{ReadsSpan, ReadsCell};
 
-use crate::hex::{byte_at, digit_at};
-use crate::{Cell, Expected, Span, WordFault, fault};
-
-// No number of a word is above this.
-const CAP: u16 = 65535;
+use crate::hex::digit_at;
+use crate::{Cell, Expected, Span, WordFault};
 
 const DASH: u8 = b'-';
 
@@ -29,21 +27,12 @@ const UNUSED: u16 = 0x0000;
 
 const REMOVED: u16 = 0xFFFE;
 
-// What is written is read as what it was written for: a fact that a call can bring in; it costs nothing at run time.
-fn laws()
-    ensures number { NumberBack }
-    ensures range { RangeBack }
-    ensures code { CodeBack }
-    ensures cell { CellBack }
-{}
-
-// A number with one more digit behind it; past the cap it stays there.
+// A number with one more digit behind it; past the largest it stays there.
 fn with_digit(n: u16, digit: u8) -> u16
-    requires { (48 ≤ digit) × (digit ≤ 57) }
     ensures { result ≡ capped n digit }
 {
-    let more = n as u32 * 10 + (digit - b'0') as u32;
-    if more < CAP as u32 { more as u16 } else { CAP }
+    n.saturating_mul(10)
+        .saturating_add(u16::from(digit.saturating_sub(b'0')))
 }
 
 // The number that the digits in front write, and how many they are.
@@ -62,20 +51,21 @@ fn scan(word: &[u8]) -> (u16, usize)
     (n, word.len())
 }
 
-// A decimal number: digits and nothing else. All numbers above 65535 are read as 65535.
+// A decimal number: digits and nothing else. All numbers above 65535 are read as 65535. A function, since a bare number is no
+// type of ours that could have a conversion.
+#[tactic(auto, using(crate::proofs::Backs::number_back))]
 pub fn number(word: &[u8]) -> Result<u16, WordFault>
     ensures value { result ≡ number_of word.now }
     ensures within { IfErr result (λ f. f.offset ≤ length word.now) }
     ensures back { NumberBack }
 {
-    laws();
     let (n, end) = scan(word);
     if end == 0 {
-        fault(0, Expected::Digit)
+        Err(Expected::Digit.at(0))
     } else if end == word.len() {
         Ok(n)
     } else {
-        fault(end, Expected::DigitOrEnd)
+        Err(Expected::DigitOrEnd.at(end))
     }
 }
 
@@ -86,40 +76,33 @@ fn up_to(low: u16, from: usize, part: &[u8]) -> Result<Span, WordFault>
     ensures ordered { IfOk result (λ s. s.low ≤ s.high) }
     ensures within { IfErr result (λ f. f.offset ≤ from + length part.now) }
 {
-    match number(part) {
-        Ok(high) if high < low => fault(from, Expected::NotBelow),
-        Ok(high) => Ok(Span { low, high }),
-        Err(f) => fault(from + f.offset, f.expected),
+    let high = number(part).map_err(|f| f.expected.at(from + f.offset))?;
+    if high < low {
+        return Err(Expected::NotBelow.at(from));
     }
-}
-
-fn span_of(word: &[u8]) -> Result<Span, WordFault>
-    ensures value { result ≡ span_of word.now }
-    ensures ordered { IfOk result (λ s. s.low ≤ s.high) }
-    ensures within { IfErr result (λ f. f.offset ≤ length word.now) }
-{
-    let (low, end) = scan(word);
-    if end == 0 {
-        return fault(0, Expected::Digit);
-    }
-    if end == word.len() {
-        return Ok(Span { low, high: low });
-    }
-    if word[end] != DASH {
-        return fault(end, Expected::DigitOrDash);
-    }
-    up_to(low, end + 1, &word[end + 1..])
+    Ok(Span { low, high })
 }
 
 // A channel, or a range LOW-HIGH of them.
-pub fn span(word: &[u8]) -> Result<Span, WordFault>
-    ensures value { result ≡ span_of word.now }
-    ensures ordered { IfOk result (λ s. s.low ≤ s.high) }
-    ensures within { IfErr result (λ f. f.offset ≤ length word.now) }
-    ensures back { RangeBack }
-{
-    laws();
-    span_of(word)
+#[tactic(auto, using(crate::proofs::Backs::range_back))]
+impl TryFrom<&[u8]> for Span {
+    type Error = WordFault;
+
+    ghost try_from_gives = { λ word r. ReadsSpan word.now r };
+
+    fn try_from(word: &[u8]) -> Result<Span, WordFault> {
+        let (low, end) = scan(word);
+        if end == 0 {
+            return Err(Expected::Digit.at(0));
+        }
+        if end == word.len() {
+            return Ok(Span { low, high: low });
+        }
+        if word[end] != DASH {
+            return Err(Expected::DigitOrDash.at(end));
+        }
+        up_to(low, end + 1, &word[end + 1..])
+    }
 }
 
 // The four hexadecimal digits from a place on.
@@ -136,38 +119,40 @@ fn four_at(word: &[u8], i: usize) -> Result<u16, WordFault>
     Ok(((a * 16 + b) * 16 + c) * 16 + d)
 }
 
-// A code of four hexadecimal digits.
+// A code of four hexadecimal digits. It is a bare number, which has its own conversion from bytes.
+#[tactic(auto, using(crate::proofs::Backs::code_back))]
 pub fn code(word: &[u8]) -> Result<u16, WordFault>
     ensures value { result ≡ code_of word.now }
     ensures within { IfErr result (λ f. f.offset ≤ length word.now) }
     ensures back { CodeBack }
 {
-    laws();
     let n = four_at(word, 0)?;
     if word.len() == CODE_END {
         Ok(n)
     } else {
-        fault(CODE_END, Expected::End)
+        Err(Expected::End.at(CODE_END))
     }
 }
 
 // A cell: its area code, a colon, its identity.
-pub fn cell(word: &[u8]) -> Result<Cell, WordFault>
-    ensures value { result ≡ cell_of word.now }
-    ensures within { IfErr result (λ f. f.offset ≤ length word.now) }
-    ensures back { CellBack }
-{
-    laws();
-    let lac = four_at(word, 0)?;
-    if byte_at(word, COLON_AT) != COLON {
-        return fault(COLON_AT, Expected::Colon);
+#[tactic(auto, using(crate::proofs::Backs::cell_back))]
+impl TryFrom<&[u8]> for Cell {
+    type Error = WordFault;
+
+    ghost try_from_gives = { λ word r. ReadsCell word.now r };
+
+    fn try_from(word: &[u8]) -> Result<Cell, WordFault> {
+        let lac = four_at(word, 0)?;
+        let Some(COLON) = word.get(COLON_AT).copied() else {
+            return Err(Expected::Colon.at(COLON_AT));
+        };
+        let ci = four_at(word, CI_AT)?;
+        if word.len() != CELL_END {
+            return Err(Expected::End.at(CELL_END));
+        }
+        if lac == UNUSED || lac == REMOVED {
+            return Err(Expected::LiveArea.at(0));
+        }
+        Ok(Cell { lac, ci })
     }
-    let ci = four_at(word, CI_AT)?;
-    if word.len() != CELL_END {
-        return fault(CELL_END, Expected::End);
-    }
-    if lac == UNUSED || lac == REMOVED {
-        return fault(0, Expected::LiveArea);
-    }
-    Ok(Cell { lac, ci })
 }

@@ -1,4 +1,4 @@
-mod Fronts
 mod Spreads
 mod Steps
-mod Pasted
+mod Placing
+pub mod Pasted

@@ -10,19 +10,22 @@ use Rattle.channels.specs.declared.ChannelSet.{ChannelSet}
 use Rattle.channels.specs.Sets.{holds, no_channels, size_of, members_of}
 use Rattle.channels.proofs.Views.{holds_of, holds-none, same_set, member_laws}
 use Rattle.notation.specs.declared.Span.{Span}
-use Rattle.notation.specs.Codes.{deleted, cell_at, cell_of}
+use Rattle.notation.specs.Codes.{deleted, cell_at}
 use Rattle.notation.specs.Lists.{span_text, run_of, runs_from, spans_of, list_text, in_span, covers}
-use Rattle.notation.specs.Numbers.{and_then, span_of}
+use Rattle.notation.specs.Numbers.{and_then}
 use Rattle.notation.specs.Octets.{blank}
 use Rattle.notation.specs.Texts.{hex_char, code_text, cell_text, blanked}
 use Rattle.notation.proofs.Backs.{range_back, cell_back, figures}
 use Rattle.notation.proofs.Covers.{Ranges, members_range, spans_exact}
-use Rattle.plans.specs.declared.Line.TheVariants.{Entry}
-use Rattle.plans.specs.Lines.{placed, cell_in, with_span, over_range, add_in, channels_in, entry, line_of}
+use Rattle.plans.specs.Lines.{placed, with_span, over_range, add_in, channels_in, entry, line_by, line_of}
+use Rattle.plans.specs.Pieces.{Piece}
 use Rattle.plans.specs.Pastes.{as_line, PasteLaws}
 use Rattle.plans.specs.Reports.{channel_text}
-use Rattle.plans.specs.Words.{solid, begins, ends, word, next_word, words_after, text_of}
-use Rattle.plans.proofs.Steps.{none-past, channels_end, channels-next, good_line}
+use Rattle.plans.specs.Words.{solid, begins, ends, word, end_of, next_word, words_after}
+use Rattle.plans.proofs.Steps.{none-past, no_word, one_word}
+
+abbrev pub piece : ℕ → List ℕ → Piece
+piece a t = record { start = a; text = t }
 
 abbrev Solid : ℕ → Type 0
 Solid c = solid c ≡ true
@@ -48,17 +51,19 @@ module _ (pre gap w rest : List ℕ) (blanks : AllByRecursion (λ c. blank c ≡
   end_at : ends (pre ++ (gap ++ (w ++ rest))) (length pre + length gap) ≡ length pre + length gap + length w
   end_at = ap (λ l. length pre + length gap + prefix_len solid l) behind ∙ ap (λ k. length pre + length gap + k) (leading-front solid w rest solids stop)
 
-  pub word_at : next_word (pre ++ (gap ++ (w ++ rest))) (length pre) ≡ Some (word (length pre + length gap) (length pre + length gap + length w))
-  unfolding next_word
-  word_at =
-      ap (λ b. cond (eqb (ends (pre ++ (gap ++ (w ++ rest))) b) b) None (Some (word b (ends (pre ++ (gap ++ (w ++ rest))) b)))) begin_at
-      ∙ ap (λ e. cond (eqb e (length pre + length gap)) None (Some (word (length pre + length gap) e))) end_at
-      ∙ cond-false _ _ _ (ne_eqb (length pre + length gap + length w) (length pre + length gap) (λ e. omega arith))
-
-  pub text_at : text_of (pre ++ (gap ++ (w ++ rest))) (word (length pre + length gap) (length pre + length gap + length w)) ≡ w
+  text_at : take (length pre + length gap + length w - (length pre + length gap)) (drop (length pre + length gap) (pre ++ (gap ++ (w ++ rest)))) ≡ w
   text_at =
       let long : length pre + length gap + length w - (length pre + length gap) ≡ length w = omega arith in
       (λ j. take (long j) (behind j)) ∙ take_at w rest (length w) refl
+
+  pub word_at : next_word (pre ++ (gap ++ (w ++ rest))) (length pre) ≡ Some (record { start = length pre + length gap; text = w })
+  unfolding next_word
+  word_at =
+      let bs = pre ++ (gap ++ (w ++ rest)) in
+      ap (λ b. cond (eqb (ends bs b) b) None (Some (word bs b (ends bs b)))) begin_at
+      ∙ ap (λ e. cond (eqb e (length pre + length gap)) None (Some (word bs (length pre + length gap) e))) end_at
+      ∙ cond-false _ _ _ (ne_eqb (length pre + length gap + length w) (length pre + length gap) (λ e. omega arith))
+      ∙ ap (λ t. Some (piece (length pre + length gap) t)) text_at
 
 -- ranges are solid
 digit-solid : (c : ℕ) → is_ascii_digit c ≡ true → Solid c
@@ -105,30 +110,29 @@ spread_members s = same_set _ s (λ k h. holds-spread no_channels (spans_of (mem
 
 -- one range behind a text that is read already
 module _ (pre : List ℕ) (x : Span) (xs : List Span) (h : Ranges x) (s : ChannelSet) where
-  pub next-range : next_word (pre ++ blanked span_text (x ∷ xs)) (length pre) ≡ Some (word (length pre + 1) (length pre + 1 + length (span_text x)))
+  pub next-range : next_word (pre ++ blanked span_text (x ∷ xs)) (length pre) ≡ Some (piece (length pre + 1) (span_text x))
   next-range = word_at pre (32 ∷ []) (span_text x) (blanked span_text xs) (refl, tt) (span-solid x h) (span-some x h) (blanked_stop xs)
 
-  pub add_range : add_in (pre ++ blanked span_text (x ∷ xs)) s (word (length pre + 1) (length pre + 1 + length (span_text x))) ≡ Ok (with_span s x)
+  pub add_range : add_in s (piece (length pre + 1) (span_text x)) ≡ Ok (with_span s x)
   add_range =
-      let w = word (length pre + 1) (length pre + 1 + length (span_text x)) in
-      let told = text_at pre (32 ∷ []) (span_text x) (blanked span_text xs) (refl, tt) (span-solid x h) (span-some x h) (blanked_stop xs) in
-      ap (λ l. and_then (placed w (span_of l)) (λ r. cond (leb r.high 1023) (Ok (with_span s r)) (Err (over_range w)))) told
-      ∙ ap (λ r. and_then (placed w r) (λ r. cond (leb r.high 1023) (Ok (with_span s r)) (Err (over_range w)))) (range_back x.low x.high h.0 (omega (arith, h.1)))
+      let w = piece (length pre + 1) (span_text x) in
+      ap (λ r. and_then (placed w r) (λ r. cond (leb r.high 1023) (Ok (with_span s r)) (Err (over_range w)))) (range_back x.low x.high h.0 (omega (arith, h.1)))
       ∙ cond-true _ _ _ (le-leb x.high 1023 h.1)
 
-ranges_read : (ss : List Span) → AllByRecursion Ranges ss → (pre : List ℕ) (s : ChannelSet) → channels_in (pre ++ blanked span_text ss) s (words_after (pre ++ blanked span_text ss) (length pre)) ≡ Ok (spread s ss)
+ranges_read : (ss : List Span) → AllByRecursion Ranges ss → (pre : List ℕ) (s : ChannelSet) → channels_in s (words_after (pre ++ blanked span_text ss) (length pre)) ≡ Ok (spread s ss)
 unfolding spread
 ranges_read [] h pre s =
     let long = length-append pre [] in
-    channels_end (pre ++ []) (length pre) (omega arith) s (none-past (pre ++ []) (length pre) (omega arith))
+    ap (channels_in s) (no_word (pre ++ []) (length pre) (omega arith) (none-past (pre ++ []) (length pre) (omega arith)))
 ranges_read (x ∷ xs) h pre s =
     let bs = pre ++ blanked span_text (x ∷ xs) in
-    let w = word (length pre + 1) (length pre + 1 + length (span_text x)) in
+    let w = piece (length pre + 1) (span_text x) in
     let long = length-append pre (blanked span_text (x ∷ xs)) in
-    let step = channels-next bs (length pre) (omega arith) s w (next-range pre x xs h.0 s) (with_span s x) (add_range pre x xs h.0 s) in
     let same : (pre ++ (32 ∷ span_text x)) ++ blanked span_text xs ≡ bs = append_assoc pre (32 ∷ span_text x) (blanked span_text xs) in
-    let place : length (pre ++ (32 ∷ span_text x)) ≡ w.end = omega (arith, length-append pre (32 ∷ span_text x)) in
-    sym step ∙ (λ j. channels_in (sym same j) (with_span s x) (words_after (sym same j) (sym place j))) ∙ ranges_read xs h.1 (pre ++ (32 ∷ span_text x)) (with_span s x)
+    let place : length (pre ++ (32 ∷ span_text x)) ≡ end_of w = omega (arith, length-append pre (32 ∷ span_text x)) in
+    ap (channels_in s) (one_word bs (length pre) w (omega arith) (next-range pre x xs h.0 s))
+    ∙ ap (λ r. and_then r (λ t. channels_in t (words_after bs (end_of w)))) (add_range pre x xs h.0 s)
+    ∙ (λ j. channels_in (with_span s x) (words_after (sym same j) (sym place j))) ∙ ranges_read xs h.1 (pre ++ (32 ∷ span_text x)) (with_span s x)
 
 -- a cell is solid
 hex-solid : (d : ℕ) → d < 16 → Solid (hex_char d)
@@ -160,19 +164,19 @@ unfolding channel_text
 printed s = printed-by (members_of s) (size_of s) (member_laws.count s)
 
 module _ (lac ci : ℕ) (s : ChannelSet) (a : lac < 65536) (b : ci < 65536) (alive : deleted lac ≡ false) where
-  made_line : line_of (cell_text (cell_at lac ci) ++ blanked span_text (spans_of (members_of s))) ≡ Ok (Entry (entry (cell_at lac ci) s))
+  made_line : line_of (cell_text (cell_at lac ci) ++ blanked span_text (spans_of (members_of s))) ≡ Ok (Some (entry (cell_at lac ci) s))
   made_line =
       let c = cell_at lac ci in
       let ss = spans_of (members_of s) in
       let bs = cell_text c ++ blanked span_text ss in
+      let w = piece 0 (cell_text c) in
       let solids = All-append Solid (code_text lac) (58 ∷ code_text ci) (code_solid lac a) (refl, code_solid ci b) in
       let first = word_at [] [] (cell_text c) (blanked span_text ss) tt solids (omega arith) (blanked_stop ss) in
-      let told = text_at [] [] (cell_text c) (blanked span_text ss) tt solids (omega arith) (blanked_stop ss) in
-      let cell : cell_in bs (word 0 9) ≡ Ok c = ap (λ l. placed (word 0 9) (cell_of l)) told ∙ ap (placed (word 0 9)) (cell_back lac ci a b alive) in
-      let channels = ranges_read ss (members_range member_laws s) (cell_text c) no_channels ∙ ap Ok (spread_members s) in
-      sym (good_line bs (word 0 9) first c (sym cell) s (sym channels))
+      ap line_by (one_word bs 0 w (omega arith) first)
+      ∙ ap (λ r. and_then (placed w r) (λ c. and_then (channels_in no_channels (words_after bs 9)) (λ s. Ok (Some (entry c s))))) (cell_back lac ci a b alive)
+      ∙ ap (λ r. and_then r (λ s. Ok (Some (entry c s)))) (ranges_read ss (members_range member_laws s) (cell_text c) no_channels ∙ ap Ok (spread_members s))
 
-  pasted : line_of (as_line (cell_at lac ci) s) ≡ Ok (Entry (entry (cell_at lac ci) s))
+  pasted : line_of (as_line (cell_at lac ci) s) ≡ Ok (Some (entry (cell_at lac ci) s))
   pasted = ap (λ l. line_of (cell_text (cell_at lac ci) ++ l)) (printed s) ∙ made_line
 
 pub paste_laws : PasteLaws

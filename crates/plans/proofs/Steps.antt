@@ -1,23 +1,18 @@
 -- The words of a line, one by one.
-use Rattle.std.proofs.Common.{◌≡◌, ℕ, zero, suc, ◌+◌, ◌-◌, ◌<◌, ◌≤◌, Bool, true, false, cond, eqb, List, [], ◌∷◌, length, drop, IfSome, Some, None, Ok, Err, Option, sym, refl, ap, ◌∙◌, subst, arith, length-drop}
+use Rattle.std.proofs.Common.{◌≡◌, ℕ, zero, suc, ◌+◌, ◌-◌, ◌<◌, ◌≤◌, Bool, true, false, cond, eqb, List, [], ◌∷◌, length, drop, IfSome, Some, None, Option, sym, refl, ap, ◌∙◌, subst, arith, length-drop}
+use Rattle.std.specs.List.{AllByRecursion}
+use Rattle.std.proofs.lemmas.List.{length-take}
 use Rattle.std.proofs.lemmas.List.Sums.{prefix_len-le-length, prefix_len-drop_all}
-use Rattle.std.proofs.lemmas.Bool.{cond-true, eqb-false, eq-eqb}
-use Rattle.channels.specs.declared.ChannelSet.{ChannelSet}
-use Rattle.channels.specs.Sets.{no_channels}
-use Rattle.notation.specs.declared.Cell.{Cell}
-use Rattle.notation.specs.Numbers.{and_then}
+use Rattle.std.proofs.lemmas.Bool.{cond-true, cond-false, eqb-false, eq-eqb, ne_eqb}
 use Rattle.notation.specs.Octets.{blank}
-use Rattle.plans.specs.declared.Word.{Word}
-use Rattle.plans.specs.declared.Complaint.{Complaint}
-use Rattle.plans.specs.declared.Line.TheVariants as lines
-use Rattle.plans.specs.Lines.{cell_in, add_in, channels_in, entry, line_by, line_of}
-use Rattle.plans.specs.Words.{solid, begins, ends, word, next_word, words_from, words_after}
+use Rattle.plans.specs.Pieces.{Piece}
+use Rattle.plans.specs.Words.{solid, begins, ends, word, end_of, next_word, words_from, words_after, words_of}
 
 -- where a word lies that was found from i on
-pub record Lies (bs : List ℕ) (i : ℕ) (w : Word) : Type 0 where
+pub record Lies (bs : List ℕ) (i : ℕ) (w : Piece) : Type 0 where
   pub after : i ≤ w.start
-  pub some : w.start < w.end
-  pub within : w.end ≤ length bs
+  pub some : w.start < end_of w
+  pub within : end_of w ≤ length bs
 
 begins-within : (bs : List ℕ) (i : ℕ) → i ≤ length bs → begins bs i ≤ length bs
 begins-within bs i h = omega (arith, prefix_len-le-length blank (drop i bs), length-drop i bs)
@@ -25,17 +20,23 @@ begins-within bs i h = omega (arith, prefix_len-le-length blank (drop i bs), len
 ends-within : (bs : List ℕ) (i : ℕ) → i ≤ length bs → ends bs i ≤ length bs
 ends-within bs i h = omega (arith, prefix_len-le-length solid (drop i bs), length-drop i bs)
 
+end_of-word : (bs : List ℕ) (a b : ℕ) → a ≤ b → b ≤ length bs → end_of (word bs a b) ≡ b
+end_of-word bs a b h k = omega (arith, length-take (b - a) (drop a bs), length-drop a bs)
+
 pub lies : (bs : List ℕ) (i : ℕ) → i ≤ length bs → IfSome (next_word bs i) (Lies bs i)
 unfolding next_word
 lies bs i h = by (eqb (ends bs (begins bs i)) (begins bs i)) refl
   where
-    by : (b : Bool) → eqb (ends bs (begins bs i)) (begins bs i) ≡ b → IfSome (cond b None (Some (word (begins bs i) (ends bs (begins bs i))))) (Lies bs i)
+    by : (b : Bool) → eqb (ends bs (begins bs i)) (begins bs i) ≡ b → IfSome (cond b None (Some (word bs (begins bs i) (ends bs (begins bs i))))) (Lies bs i)
     by true e = tt
-    by false e = record {
-      after = omega arith;
-      some = omega (arith, eqb-false (ends bs (begins bs i)) (begins bs i) e);
-      within = ends-within bs (begins bs i) (begins-within bs i h);
-    }
+    by false e =
+        let within = ends-within bs (begins bs i) (begins-within bs i h) in
+        let end = end_of-word bs (begins bs i) (ends bs (begins bs i)) (omega arith) within in
+        record {
+          after = omega arith;
+          some = omega (arith, eqb-false (ends bs (begins bs i)) (begins bs i) e);
+          within = omega arith;
+        }
 
 pub none-past : (bs : List ℕ) (i : ℕ) → length bs ≤ i → next_word bs i ≡ None
 unfolding next_word
@@ -45,15 +46,15 @@ none-past bs i h =
     cond-true _ _ _ (eq-eqb (ends bs (begins bs i)) (begins bs i) (omega arith))
 
 module _ (bs : List ℕ) where
-  from-by : ℕ → ℕ → Option Word → List Word
-  from-by k i (Some w) = w ∷ words_from k bs w.end
+  from-by : ℕ → ℕ → Option Piece → List Piece
+  from-by k i (Some w) = w ∷ words_from k bs (end_of w)
   from-by k i None = []
 
   from_is : (k i : ℕ) → words_from (suc k) bs i ≡ from-by k i (next_word bs i)
   unfolding from-by
   from_is k i = by (next_word bs i)
     where
-      by : (o : Option Word) → elim o [ Some w ↦ w ∷ words_from k bs w.end | None ↦ [] ] ≡ from-by k i o
+      by : (o : Option Piece) → elim o [ Some w ↦ w ∷ words_from k bs (end_of w) | None ↦ [] ] ≡ from-by k i o
       by (Some w) = refl
       by None = refl
 
@@ -62,7 +63,7 @@ module _ (bs : List ℕ) where
   none_left zero i h = refl
   none_left (suc k) i h = from_is k i ∙ ap (from-by k i) (none-past bs i h)
 
-  same_by : (k m i : ℕ) (o : Option Word) → IfSome o (Lies bs i) → ((w : Word) → Lies bs i w → words_from k bs w.end ≡ words_from m bs w.end) → from-by k i o ≡ from-by m i o
+  same_by : (k m i : ℕ) (o : Option Piece) → IfSome o (Lies bs i) → ((w : Piece) → Lies bs i w → words_from k bs (end_of w) ≡ words_from m bs (end_of w)) → from-by k i o ≡ from-by m i o
   unfolding from-by
   same_by k m i None l more = refl
   same_by k m i (Some w) l more = ap (λ ws. w ∷ ws) (more w l)
@@ -73,51 +74,47 @@ module _ (bs : List ℕ) where
   enough (suc k) zero i h a b = none_left (suc k) i (omega arith)
   enough (suc k) (suc m) i h a b =
       from_is k i
-      ∙ same_by k m i (next_word bs i) (lies bs i h) (λ w l. enough k m w.end l.within (omega (arith, l.after, l.some)) (omega (arith, l.after, l.some)))
+      ∙ same_by k m i (next_word bs i) (lies bs i h) (λ w l. enough k m (end_of w) l.within (omega (arith, l.after, l.some)) (omega (arith, l.after, l.some)))
       ∙ sym (from_is m i)
 
   pub no_word : (i : ℕ) → i ≤ length bs → next_word bs i ≡ None → words_after bs i ≡ []
   unfolding from-by
   no_word i h e = enough (length bs - i) (suc (length bs)) i h (omega arith) (omega arith) ∙ from_is (length bs) i ∙ ap (from-by (length bs) i) e
 
-  pub one_word : (i : ℕ) (w : Word) → i ≤ length bs → next_word bs i ≡ Some w → words_after bs i ≡ w ∷ words_after bs w.end
+  pub one_word : (i : ℕ) (w : Piece) → i ≤ length bs → next_word bs i ≡ Some w → words_after bs i ≡ w ∷ words_after bs (end_of w)
   unfolding from-by
   one_word i w h e =
       let l : Lies bs i w = subst (λ o. IfSome o (Lies bs i)) e (lies bs i h) in
       enough (length bs - i) (suc (length bs)) i h (omega arith) (omega arith) ∙ from_is (length bs) i ∙ ap (from-by (length bs) i) e
-      ∙ ap (λ ws. w ∷ ws) (enough (length bs) (length bs - w.end) w.end l.within (omega arith) (omega (arith, l.within)))
+      ∙ ap (λ ws. w ∷ ws) (enough (length bs) (length bs - end_of w) (end_of w) l.within (omega arith) (omega (arith, l.within)))
 
--- the channels of the words from a place on
-module _ (bs : List ℕ) (i : ℕ) (h : i ≤ length bs) (s : ChannelSet) where
-  pub channels_end : next_word bs i ≡ None → channels_in bs s (words_after bs i) ≡ Ok s
-  channels_end e = ap (channels_in bs s) (no_word bs i h e)
+  -- no word ends past the line
+  all_by : (k i : ℕ) (o : Option Piece) → IfSome o (Lies bs i) → ((w : Piece) → Lies bs i w → AllByRecursion (λ v. end_of v ≤ length bs) (words_from k bs (end_of w))) → AllByRecursion (λ v. end_of v ≤ length bs) (from-by k i o)
+  unfolding from-by
+  all_by k i None l more = tt
+  all_by k i (Some w) l more = (l.within, more w l)
 
-  module _ (w : Word) (e : next_word bs i ≡ Some w) where
-    first : channels_in bs s (words_after bs i) ≡ and_then (add_in bs s w) (λ t. channels_in bs t (words_after bs w.end))
-    first = ap (channels_in bs s) (one_word bs i w h e)
+  all_within : (k i : ℕ) → i ≤ length bs → AllByRecursion (λ v. end_of v ≤ length bs) (words_from k bs i)
+  all_within zero i h = tt
+  all_within (suc k) i h = subst (AllByRecursion (λ v. end_of v ≤ length bs)) (sym (from_is k i)) (all_by k i (next_word bs i) (lies bs i h) (λ w l. all_within k (end_of w) l.within))
 
-    pub channels-next : (t : ChannelSet) → add_in bs s w ≡ Ok t → channels_in bs t (words_after bs w.end) ≡ channels_in bs s (words_after bs i)
-    channels-next t a = sym (first ∙ ap (λ r. and_then r (λ t. channels_in bs t (words_after bs w.end))) a)
+  pub words_within : AllByRecursion (λ v. end_of v ≤ length bs) (words_of bs)
+  words_within = all_within (length bs - 0) 0 (omega arith)
 
-    pub channels_bad : (c : Complaint) → add_in bs s w ≡ Err c → channels_in bs s (words_after bs i) ≡ Err c
-    channels_bad c a = first ∙ ap (λ r. and_then r (λ t. channels_in bs t (words_after bs w.end))) a
+-- where a word from i on begins and ends
+module _ (bs : List ℕ) (i s e : ℕ) (begin : s ≡ begins bs i) (end : e ≡ ends bs s) where
+  at : next_word bs i ≡ cond (eqb e s) None (Some (word bs s e))
+  unfolding next_word
+  at =
+      (λ j. cond (eqb (ends bs (sym begin j)) (sym begin j)) None (Some (word bs (sym begin j) (ends bs (sym begin j)))))
+      ∙ (λ j. cond (eqb (sym end j) s) None (Some (word bs s (sym end j))))
 
-pub blank_line : (bs : List ℕ) → next_word bs 0 ≡ None → line_of bs ≡ Ok lines.Blank
-blank_line bs e = ap (line_by bs) (no_word bs 0 (omega arith) e)
+  pub not_found : e ≡ s → next_word bs i ≡ None
+  not_found same = at ∙ cond-true _ _ _ (eq-eqb e s same)
 
-pub cell_line : (bs : List ℕ) (w : Word) → next_word bs 0 ≡ Some w → line_of bs ≡ and_then (cell_in bs w) (λ c. and_then (channels_in bs no_channels (words_after bs w.end)) (λ s. Ok (lines.Entry (entry c s))))
-cell_line bs w e = ap (line_by bs) (one_word bs 0 w (omega arith) e)
-
-module _ (bs : List ℕ) (w : Word) (e : next_word bs 0 ≡ Some w) where
-  pub bad_cell : (f : Complaint) → Err f ≡ cell_in bs w → Err f ≡ line_of bs
-  bad_cell f a = sym (cell_line bs w e ∙ ap (λ r. and_then r (λ c. and_then (channels_in bs no_channels (words_after bs w.end)) (λ s. Ok (lines.Entry (entry c s))))) (sym a))
-
-  module _ (c : Cell) (a : Ok c ≡ cell_in bs w) where
-    with_cell : line_of bs ≡ and_then (channels_in bs no_channels (words_after bs w.end)) (λ s. Ok (lines.Entry (entry c s)))
-    with_cell = cell_line bs w e ∙ ap (λ r. and_then r (λ c. and_then (channels_in bs no_channels (words_after bs w.end)) (λ s. Ok (lines.Entry (entry c s))))) (sym a)
-
-    pub bad_channels : (f : Complaint) → Err f ≡ channels_in bs no_channels (words_after bs w.end) → Err f ≡ line_of bs
-    bad_channels f b = sym (with_cell ∙ ap (λ r. and_then r (λ s. Ok (lines.Entry (entry c s)))) (sym b))
-
-    pub good_line : (s : ChannelSet) → Ok s ≡ channels_in bs no_channels (words_after bs w.end) → Ok (lines.Entry (entry c s)) ≡ line_of bs
-    good_line s b = sym (with_cell ∙ ap (λ r. and_then r (λ s. Ok (lines.Entry (entry c s)))) (sym b))
+  pub next_words : i ≤ length bs → (e ≡ s → ⊥) → words_after bs i ≡ word bs s e ∷ words_after bs e
+  next_words h apart =
+      let found = at ∙ cond-false _ _ _ (ne_eqb e s apart) in
+      let inside : s ≤ length bs = omega (arith, begins-within bs i h) in
+      let within : e ≤ length bs = omega (arith, ends-within bs s inside) in
+      one_word bs i (word bs s e) h found ∙ ap (λ k. word bs s e ∷ words_after bs k) (end_of-word bs s e (omega arith) within)

@@ -1,3 +1,5 @@
+pub mod Pieces
+pub mod Plurals
 pub mod Words
 pub mod Lines
 pub mod Trials

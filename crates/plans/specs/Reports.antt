@@ -1,5 +1,5 @@
 -- The texts of reports.
-use Rattle.std.specs.Prelude.{◌≡◌, ℕ, ◌+◌, Bool, true, cond, List, [], ◌++◌, Ok, Err, string_bytes, codes, decimal, Result, ◌==◌}
+use Rattle.std.specs.Prelude.{◌≡◌, ℕ, ◌+◌, Bool, true, if◌then◌else◌, List, [], ◌++◌, Some, None, Ok, Err, string_bytes, codes, decimal, Option, Result}
 use Rattle.channels.specs.declared.ChannelSet.{ChannelSet}
 use Rattle.channels.specs.Sets.{size_of, members_of}
 use Rattle.faults.specs.declared.PileFault.{PileFault}
@@ -13,16 +13,15 @@ use Rattle.piles.specs.Laws.{Meaning}
 use Rattle.plans.specs.declared.Answer.{Answer}
 use Rattle.plans.specs.declared.Entry.{Entry}
 use Rattle.plans.specs.declared.Complaint.{Complaint}
-use Rattle.plans.specs.declared.Line.{Line}
-use Rattle.plans.specs.declared.Line.TheVariants as lines
 use Rattle.plans.specs.declared.Verdict.{Verdict}
 use Rattle.plans.specs.declared.Verdict.TheVariants.{Blank, Composed, Refused, Misread}
 use Rattle.plans.specs.declared.Why.{Why}
 use Rattle.plans.specs.declared.Why.TheVariants as whys
+use Rattle.plans.specs.Plurals.{plural}
 use Rattle.plans.specs.Trials.{no_flags}
 
 abbrev pub noun : ℕ → List ℕ
-noun n = cond (n == 1) (codes "channel") (codes "channels")
+noun n = plural n (codes "channel") (codes "channels")
 
 -- the channels of a set as a plan has them
 unfoldable pub channel_text : ChannelSet → List ℕ
@@ -37,7 +36,7 @@ unfoldable pub head_text : ℕ → Entry → List ℕ
 head_text n e = head_of n e.cell (size_of e.channels) (noun (size_of e.channels)) (channel_text e.channels)
 
 abbrev pub likeness_text : Bool → List ℕ
-likeness_text same = cond same (codes "the same channels") (codes "other channels")
+likeness_text same = if same then codes "the same channels" else codes "other channels"
 
 -- the octets, and what they are read back as
 abbrev pub composed_of : List ℕ → List ℕ → List ℕ → List ℕ
@@ -83,7 +82,7 @@ pub record Complained (n : ℕ) (c : Complaint) (a : Answer) : Type 0 where
   pub text : string_bytes a.text ≡ complaint_of n (c.start + 1) found (why_text c.why)
 
 -- the answer to a line, by what it says
-abbrev pub Answered : Meaning → ℕ → Result Line Complaint → Answer → Type 0
-Answered m n (Ok lines.Blank) a = (a.verdict ≡ Blank) × (string_bytes a.text ≡ [])
-Answered m n (Ok (lines.Entry e)) a = Reported n e (m.writes e.channels 16) a
+abbrev pub Answered : Meaning → ℕ → Result (Option Entry) Complaint → Answer → Type 0
+Answered m n (Ok None) a = (a.verdict ≡ Blank) × (string_bytes a.text ≡ [])
+Answered m n (Ok (Some e)) a = Reported n e (m.writes e.channels 16) a
 Answered m n (Err c) a = Complained n c a

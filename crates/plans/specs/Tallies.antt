@@ -1,8 +1,9 @@
 -- How many lines came to what.
-use Rattle.std.specs.Prelude.{ℕ, ◌+◌, ◌-◌, ◌^◌, min, Bool, cond, ◌&&◌, List, ◌++◌, codes, decimal, ◌==◌}
+use Rattle.std.specs.Prelude.{ℕ, ◌+◌, ◌-◌, ◌^◌, min, Bool, ◌&&◌, List, ◌++◌, codes, decimal, ◌==◌}
 use Rattle.plans.specs.declared.Tally.{Tally}
 use Rattle.plans.specs.declared.Verdict.{Verdict}
 use Rattle.plans.specs.declared.Verdict.TheVariants.{Blank, Composed, Refused, Misread}
+use Rattle.plans.specs.Plurals.{plural}
 
 abbrev pub none_yet : Tally
 none_yet = record { composed = 0; refused = 0; misread = 0 }
@@ -22,10 +23,10 @@ abbrev pub clean : Tally → Bool
 clean t = t.refused == 0 && t.misread == 0
 
 abbrev pub cells : ℕ → List ℕ
-cells n = cond (n == 1) (codes "cell") (codes "cells")
+cells n = plural n (codes "cell") (codes "cells")
 
 abbrev pub lines : ℕ → List ℕ
-lines n = cond (n == 1) (codes "line") (codes "lines")
+lines n = plural n (codes "line") (codes "lines")
 
 abbrev pub tally_text : Tally → List ℕ
 tally_text t =

@@ -1,31 +1,27 @@
 // The report on a line of a plan.
-ghost use Rattle.std.specs.Prelude.{◌≡◌, ℕ, length, IfOk, Ok, string_bytes};
+ghost use Rattle.std.specs.Prelude.{◌≡◌, ℕ, length, IfOk, Some, string_bytes};
 ghost use Rattle.plans.specs.Lines.{Inside, line_of};
-ghost use Rattle.plans.specs.Reports.{noun, head_text, likeness_text, composed_text, Reported, nothing_text, Complained, Answered};
+ghost use Rattle.plans.specs.Reports.{head_text, likeness_text, composed_text, Reported, nothing_text, why_text, verdict_of, Complained, Answered};
 
 use crate::composing::compose_and_read;
 use crate::reading::parse;
-use crate::{Answer, Complaint, Entry, Line, Trial, Verdict, Why};
+use crate::{Answer, Complaint, Entry, Trial, Verdict, Why, plural};
 use channels::ChannelSet;
 use faults::Fault;
-use notation::told::{Told, expected_words};
-use notation::{hex, lists};
+use notation::hex::Hex;
+use notation::lists;
+use notation::told::Told;
 use piles::Pile;
 use std::alloc::{AllocError, Global};
+use std::fmt;
 
-fn channels_word(count: usize) -> &'static str
-    ensures { result.now ≡ noun count }
-{
-    if count == 1 { "channel" } else { "channels" }
-}
-
-// The cell of a line and its channels.
+// The cell of a line and its channels. The allocator goes first and by itself, as in std's calls.
 fn head(heap: Global, number: usize, entry: &Entry) -> Result<String, AllocError>
     ensures { IfOk result (λ s. string_bytes s ≡ head_text number entry.now) }
 {
     let cell = entry.cell;
     let count = entry.channels.size();
-    let noun = channels_word(count);
+    let noun = plural(count, "channel", "channels");
     let list = lists::write(heap, &entry.channels)?;
     format!(in heap; "line {number}: cell {cell}, {count} {noun}: {list}\n")
 }
@@ -44,7 +40,7 @@ fn likeness(same: bool) -> &'static str
 fn composed(heap: Global, trial: &Trial, channels: &ChannelSet) -> Result<String, AllocError>
     ensures { IfOk result (λ s. (trial.now.back ≡ channels.now → string_bytes s ≡ composed_text trial.now.octets channels.now)) }
 {
-    let octets = hex::write(heap, &trial.octets)?;
+    let octets = Hex(&trial.octets);
     let back = lists::write(heap, &trial.back)?;
     let same = likeness(trial.back == *channels);
     format!(in heap; "  composed in 16 octets: {octets}\n  read back: {back}, {same}\n")
@@ -92,6 +88,33 @@ fn quoted(heap: Global, part: &[u8]) -> Result<String, AllocError>
     format!(in heap; "{text:?}")
 }
 
+// Why a line went wrong, behind what was found there.
+impl fmt::Display for Why {
+    ghost output = { λ w. Some (why_text w) };
+
+    fn fmt<W: fmt::Write>(&self, f: &mut fmt::Formatter<W>) -> fmt::Result {
+        match self {
+            Why::Misread(expected) => write!(f, "expected {expected}"),
+            Why::Refused(fault) => {
+                let told = Told(fault.refusal());
+                write!(f, "refused: {told}")
+            }
+        }
+    }
+}
+
+// A line that was refused is one whose channels were.
+impl From<Why> for Verdict {
+    ghost from_gives = { λ w v. v ≡ verdict_of w };
+
+    fn from(why: Why) -> Verdict {
+        match why {
+            Why::Misread(_) => Verdict::Misread,
+            Why::Refused(_) => Verdict::Refused,
+        }
+    }
+}
+
 // Where a line went wrong, what stands there, and what should have stood there or why it is refused.
 fn complain(
     heap: Global,
@@ -102,50 +125,14 @@ fn complain(
     requires { Inside (length line.now) complaint }
     ensures { IfOk result (Complained number complaint) }
 {
-    let start = complaint.start;
-    let end = complaint.end;
+    let Complaint { start, end, why } = complaint;
     let column = start + 1;
     let found = quoted(heap, &line[start..end])?;
-    match complaint.why {
-        Why::Misread(expected) => {
-            let words = expected_words(expected);
-            let text = format!(in heap;
-                "line {number}, column {column}: found {found}, expected {words}\n"
-            )?;
-            Ok(Answer {
-                verdict: Verdict::Misread,
-                text,
-            })
-        }
-        Why::Refused(fault) => {
-            let told = Told(fault.refusal());
-            let text = format!(in heap;
-                "line {number}, column {column}: found {found}, refused: {told}\n"
-            )?;
-            Ok(Answer {
-                verdict: Verdict::Refused,
-                text,
-            })
-        }
-    }
-}
-
-// The answer to what a good line says.
-fn answer_to<P: Pile>(
-    heap: Global,
-    pile: &P,
-    number: usize,
-    said: Line,
-) -> Result<Answer, AllocError>
-    ensures { IfOk result (Answered (P.meaning pile.now) number (Ok said)) }
-{
-    match said {
-        Line::Blank => Ok(Answer {
-            verdict: Verdict::Blank,
-            text: String::new(heap),
-        }),
-        Line::Entry(entry) => report(heap, pile, number, &entry),
-    }
+    let text = format!(in heap; "line {number}, column {column}: found {found}, {why}\n")?;
+    Ok(Answer {
+        verdict: Verdict::from(why),
+        text,
+    })
 }
 
 // The answer to a line of a plan, whose number is told in it.
@@ -159,7 +146,11 @@ pub fn answer<P: Pile>(
 {
     let bytes = line.as_bytes();
     match parse(bytes) {
-        Ok(said) => answer_to(heap, pile, number, said),
+        Ok(Some(entry)) => report(heap, pile, number, &entry),
+        Ok(None) => Ok(Answer {
+            verdict: Verdict::Blank,
+            text: String::new(heap),
+        }),
         Err(complaint) => complain(heap, number, bytes, complaint),
     }
 }

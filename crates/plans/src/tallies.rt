@@ -1,8 +1,8 @@
 // How many lines came to what.
 ghost use Rattle.std.specs.Prelude.{◌≡◌, ℕ, ◌++◌, Some};
-ghost use Rattle.plans.specs.Tallies.{none_yet, counted, clean, cells, lines, tally_text};
+ghost use Rattle.plans.specs.Tallies.{none_yet, counted, clean, tally_text};
 
-use crate::{Tally, Verdict};
+use crate::{Tally, Verdict, plural};
 use std::fmt;
 
 impl Tally {
@@ -36,18 +36,6 @@ impl Tally {
     }
 }
 
-fn cells_word(count: usize) -> &'static str
-    ensures { result.now ≡ cells count }
-{
-    if count == 1 { "cell" } else { "cells" }
-}
-
-fn lines_word(count: usize) -> &'static str
-    ensures { result.now ≡ lines count }
-{
-    if count == 1 { "line" } else { "lines" }
-}
-
 // The summary of a plan.
 impl fmt::Display for Tally {
     ghost output = { λ t. Some (tally_text t) };
@@ -56,8 +44,8 @@ impl fmt::Display for Tally {
         let composed = self.composed;
         let refused = self.refused;
         let misread = self.misread;
-        let cells = cells_word(composed);
-        let lines = lines_word(misread);
+        let cells = plural(composed, "cell", "cells");
+        let lines = plural(misread, "line", "lines");
         write!(
             f,
             "{composed} {cells} composed, {refused} refused, {misread} {lines} not understood"

@@ -8,5 +8,5 @@ unfolding head_text channel_text
 returns c =
     let count = c.size-count.ensures in
     IfOk-weaker c.format.result _ _
-    (λ s e. e ∙ (λ i. head_of c.args.number c.args.entry.now.cell (count i) ((c.channels_word-noun.ensures ∙ ap noun count) i) (c.in_ok-list.ensures i)))
+    (λ s e. e ∙ (λ i. head_of c.args.number c.args.entry.now.cell (count i) ((c.plural-noun.ensures ∙ ap noun count) i) (c.in_ok-list.ensures i)))
     c.format.ensures.ok
