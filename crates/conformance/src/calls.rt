@@ -1,12 +1,14 @@
 // Calls as they are read.
-use crate::names::{PileName, name};
+use crate::nest::Nest;
+use crate::plain::Plain;
 use crate::words::{Unread, channels, cut, length, number, octets};
 use channels::ChannelSet;
 use packing::Range;
 use std::alloc::Global;
+use std::str::FromStr;
 
 // What a set is asked or told.
-#[derive(Clone, Copy)]
+#[derive(Clone, Copy, PartialEq, Eq, Debug)]
 pub enum SetCall {
     Add(u16),
     Remove(u16),
@@ -16,8 +18,12 @@ pub enum SetCall {
     Size,
 }
 
+// A pile by its name, in which up to four of the words beside and licence stand around one another. A type that contains itself
+// would have no such bound, but it could not be made of `Beside` and `Licence`, and would do again what they do.
+pub type Named = Nest<Nest<Nest<Nest<Plain>>>>;
+
 // What a pile is asked.
-#[derive(Drop)]
+#[derive(PartialEq, Eq, Debug, Drop)]
 pub enum PileCall {
     Claims,
     Read(Vec<u8>),
@@ -28,32 +34,37 @@ pub enum PileCall {
 pub enum Call {
     Set(SetCall, ChannelSet),
     Slots(Range, usize),
-    Pile(PileName, PileCall),
+    Pile(Named, PileCall),
 }
 
-fn set_call(text: &str) -> Result<SetCall, Unread> {
-    if text == "size" {
-        return Ok(SetCall::Size);
-    }
-    let (word, n) = cut(text, " ")?;
-    let n = number(n)?;
-    match word {
-        "add" => Ok(SetCall::Add(n)),
-        "remove" => Ok(SetCall::Remove(n)),
-        "shift" => Ok(SetCall::Shift(n)),
-        "holds" => Ok(SetCall::Holds(n)),
-        "next" => Ok(SetCall::Next(n)),
-        _ => Err(Unread::Call),
+impl FromStr for SetCall {
+    type Err = Unread;
+
+    fn from_str(text: &str) -> Result<SetCall, Unread> {
+        if text == "size" {
+            return Ok(SetCall::Size);
+        }
+        let (word, n) = cut(text, " ")?;
+        let n = number(n)?;
+        match word {
+            "add" => Ok(SetCall::Add(n)),
+            "remove" => Ok(SetCall::Remove(n)),
+            "shift" => Ok(SetCall::Shift(n)),
+            "holds" => Ok(SetCall::Holds(n)),
+            "next" => Ok(SetCall::Next(n)),
+            _ => Err(Unread::Call),
+        }
     }
 }
 
 fn set(text: &str) -> Result<Call, Unread> {
     let (call, of) = cut(text, " of ")?;
-    Ok(Call::Set(set_call(call)?, channels(of)?))
+    Ok(Call::Set(call.parse()?, channels(of)?))
 }
 
-fn range(word: &str) -> Result<Range, Unread> {
-    match word {
+// A range by the width of its first number. Its type is another crate's, and so is `FromStr`, which can't be given to it here.
+fn range(width: &str) -> Result<Range, Unread> {
+    match width {
         "10" => Ok(Range::R1024),
         "9" => Ok(Range::R512),
         "8" => Ok(Range::R256),
@@ -68,18 +79,18 @@ fn slots(text: &str) -> Result<Call, Unread> {
 }
 
 fn claims(text: &str) -> Result<Call, Unread> {
-    Ok(Call::Pile(name(text)?, PileCall::Claims))
+    Ok(Call::Pile(text.parse()?, PileCall::Claims))
 }
 
 fn read(heap: Global, text: &str) -> Result<Call, Unread> {
     let (pile, contents) = cut(text, " ")?;
-    Ok(Call::Pile(name(pile)?, PileCall::Read(octets(heap, contents)?)))
+    Ok(Call::Pile(pile.parse()?, PileCall::Read(octets(heap, contents)?)))
 }
 
 fn write(text: &str) -> Result<Call, Unread> {
     let (pile, rest) = cut(text, " ")?;
     let (len, set) = cut(rest, " ")?;
-    Ok(Call::Pile(name(pile)?, PileCall::Write(length(len)?, channels(set)?)))
+    Ok(Call::Pile(pile.parse()?, PileCall::Write(length(len)?, channels(set)?)))
 }
 
 pub fn parse(heap: Global, text: &str) -> Result<Call, Unread> {

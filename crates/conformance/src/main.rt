@@ -5,7 +5,8 @@
 mod answers;
 mod asks;
 mod calls;
-mod names;
+mod nest;
+mod plain;
 mod texts;
 mod words;
 
@@ -22,15 +23,12 @@ fn call_of(line: &str) -> Option<&str> {
     if line.is_empty() || line.starts_with('#') {
         return None;
     }
-    match line.split_once(ARROW) {
-        Some((call, _)) => Some(call),
-        None => Some(line),
-    }
+    Some(line.split_once(ARROW).map_or(line, |(call, _)| call))
 }
 
 fn worked_out(heap: Global, text: &str) -> Result<String, Unread> {
     let call = calls::parse(heap, text)?;
-    answers::answer(heap, call)
+    Ok(answers::answer(heap, call)?)
 }
 
 fn reply(heap: Global, text: &str) -> Result<String, AllocError> {

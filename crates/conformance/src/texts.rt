@@ -1,24 +1,24 @@
 // Answers as text.
+ghost use Rattle.std.specs.Prelude.{◌≡◌, ◌++◌, ◌∷◌, IfOk, MatchOption, string_bytes, codes, decimal, if◌then◌else◌};
+ghost use Rattle.notation.specs.Told.{name_of};
+
 use channels::ChannelSet;
 use claims::Claims;
 use faults::{Fault, Refusal};
-use notation::hex;
+use notation::hex::Hex;
 use notation::told::layer_name;
 use std::alloc::{AllocError, Global};
 
-const NONE: &str = "-";
+// The word for no channels and for no octets.
+pub const NONE: &str = "-";
 
 // Channels with a blank between two.
 fn spaced(heap: Global, channels: &[u16]) -> Result<String, AllocError> {
-    let mut text = String::new(heap);
-    for c in channels {
-        if !text.is_empty() {
-            text.push(' ')?;
-        }
-        let word = c.to_string(heap)?;
-        text.push_str(word.as_str())?;
-    }
-    Ok(text)
+    let words: Vec<String> = channels
+        .iter()
+        .map(|c| c.to_string(heap))
+        .try_collect(heap)?;
+    words.as_slice().join(heap, " ")
 }
 
 pub fn channels(heap: Global, set: &ChannelSet) -> Result<String, AllocError> {
@@ -35,26 +35,18 @@ pub fn octets(heap: Global, octets: &[u8]) -> Result<String, AllocError> {
     if octets.is_empty() {
         return String::from_str(heap, NONE);
     }
-    let blanked = hex::write(heap, octets)?;
-    let mut text = String::new(heap);
-    for pair in blanked.as_str().split_whitespace() {
-        text.push_str(pair)?;
-    }
-    Ok(text)
+    Hex(octets).to_string(heap)?.as_str().replace(heap, ' ', "")
 }
 
 // All octets claimed, rising.
 pub fn claimed(heap: Global, claims: &Claims) -> Result<String, AllocError> {
-    let mut firsts = Vec::new(heap);
-    for o in 0..=255u8 {
-        if claims.has(o) {
-            firsts.push(o)?;
-        }
-    }
+    let firsts: Vec<u8> = (0..=255u8).filter(|o| claims.has(*o)).collect(heap)?;
     octets(heap, firsts.as_slice())
 }
 
-fn refusal(heap: Global, refusal: Refusal) -> Result<String, AllocError> {
+fn refusal(heap: Global, refusal: Refusal) -> Result<String, AllocError>
+    ensures { IfOk result (λ t. string_bytes t ≡ codes "refused " ++ (decimal refusal.number ++ (codes " " ++ (name_of refusal.layer ++ (codes " " ++ decimal refusal.place))))) }
+{
     let number = refusal.number;
     let layer = layer_name(refusal.layer);
     let place = refusal.place;
@@ -65,17 +57,37 @@ pub fn refused<F: Fault>(heap: Global, fault: &F) -> Result<String, AllocError> 
     refusal(heap, fault.refusal())
 }
 
-pub fn truth(heap: Global, yes: bool) -> Result<String, AllocError> {
+// The channels of a set after a change, or why there is none.
+pub fn changed<E: Fault + Drop, F: FnOnce(&mut ChannelSet) -> Result<(), E>>(
+    heap: Global,
+    mut set: ChannelSet,
+    change: F,
+) -> Result<String, AllocError>
+    requires { F.IsAlwaysCallable change }
+{
+    match change(&mut set) {
+        Ok(()) => channels(heap, &set),
+        Err(fault) => refused(heap, &fault),
+    }
+}
+
+pub fn truth(heap: Global, yes: bool) -> Result<String, AllocError>
+    ensures { IfOk result (λ t. string_bytes t ≡ (if yes then codes "yes" else codes "no")) }
+{
     String::from_str(heap, if yes { "yes" } else { "no" })
 }
 
-pub fn next(heap: Global, channel: Option<u16>) -> Result<String, AllocError> {
+pub fn next(heap: Global, channel: Option<u16>) -> Result<String, AllocError>
+    ensures { IfOk result (λ t. MatchOption channel (string_bytes t ≡ codes "none") (λ c. string_bytes t ≡ decimal c)) }
+{
     match channel {
         Some(c) => c.to_string(heap),
         None => String::from_str(heap, "none"),
     }
 }
 
-pub fn count(heap: Global, n: usize) -> Result<String, AllocError> {
+pub fn count(heap: Global, n: usize) -> Result<String, AllocError>
+    ensures { IfOk result (λ t. string_bytes t ≡ decimal n) }
+{
     n.to_string(heap)
 }
