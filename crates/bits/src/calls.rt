@@ -99,6 +99,7 @@ impl<const N: usize> Words<N> {
     pub fn union(&self, other: &Words<N>) -> Words<N>
         ensures { (c : ℕ) → has result c ≡ (has self.now c || has other.now c) }
     {
+        // by an index: after a zip of `iter_mut` nothing is known of the words
         let either = |i: usize|
             ensures { result ≡ bit_or (slice_index self.entry.now.words i) (slice_index other.entry.now.words i) }
         { self.word(i) | other.word(i) };
@@ -121,6 +122,7 @@ impl<const N: usize> Words<N> {
             return Some(64 * at as u16 + w.trailing_zeros() as u16);
         }
         let rest = &words[at + 1..];
+        // a loop here and below: `find_map` would take one closure more, with clauses of its own
         for (i, w) in rest.iter().enumerate() {
             if *w != 0 {
                 return Some(64 * (at + 1 + i) as u16 + w.trailing_zeros() as u16);

@@ -7,7 +7,8 @@ ghost use Rattle.bits.specs.Bits.{bit, Fit};
 // The calls stand below the struct, since definitions that name it cannot be imported where it is declared.
 mod calls;
 
-// A set of numbers below 64 * N: a bit for each, the lowest in the lowest bit of the first word.
+// A set of numbers below 64 * N: a bit for each, the lowest in the lowest bit of the first word. That N is below 1024, so that the numbers fit
+// 16 bits, is required where a number is found and not in the type: at a given N it costs nobody anything, and `From` could not ask for it.
 #[derive(Clone, Copy, PartialEq, Eq, Debug)]
 pub struct Words<const N: usize> {
     words: [u64; N],

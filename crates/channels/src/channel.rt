@@ -1,4 +1,5 @@
-// A channel (ARFCN): a number from 0 to 1023. A shift of channels round the 1024 is of the same numbers.
+// A channel (ARFCN): a number from 0 to 1023. A shift of channels round the 1024 is of the same numbers. The type is for this crate: its calls
+// take and give plain numbers, as people have them.
 ghost use Rattle.std.specs.Prelude.{◌≡◌, ◌<◌, MatchResult};
 ghost use Rattle.faults.specs.declared.SetFault.TheVariants.{OverRange};
 

@@ -67,6 +67,7 @@ impl ChannelSet {
     {
         let mut n = n;
         let mut w = self.numbers.word(i);
+        // each turn takes away the lowest bit: an iterator of them would be this loop, and its own model besides
         while w != 0 {
             out[n] = 64 * i as u16 + w.trailing_zeros() as u16;
             n += 1;
@@ -132,9 +133,7 @@ impl ChannelSet {
     pub fn add_eight(&mut self, from: u16, octet: u8) -> Result<(), SetFault>
         ensures { Changed (from + 7) result self.old (put_eight self.old from octet) self.new }
     {
-        if from > CHANNELS - 8 {
-            return Err(SetFault::OverRange);
-        }
+        Channel::try_from(from.saturating_add(7))?;
         self.or_octet(from, octet);
         Ok(())
     }

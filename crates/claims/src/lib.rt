@@ -13,7 +13,7 @@ pub struct Claims {
 }
 
 impl Claims {
-    // The octets whose bits are set in four words, the lowest first.
+    // The octets whose bits are set in four words, the lowest first. Four numbers and no array: so the clauses of formats list them.
     pub fn of(a: u64, b: u64, c: u64, d: u64) -> Claims
         ensures { (o : ℕ) → claims result o ≡ bit_within (a ∷ b ∷ c ∷ d ∷ []) o }
     {

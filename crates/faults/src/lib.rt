@@ -215,11 +215,8 @@ impl VolumeFault {
         ensures { result ≡ start_of self.now }
     {
         match self {
-            VolumeFault::Record { start, .. } => *start,
-            VolumeFault::NoneInForce { start } => *start,
-            VolumeFault::Area => None,
-            VolumeFault::Full { .. } => None,
-            VolumeFault::Frame { .. } => None,
+            VolumeFault::Record { start, .. } | VolumeFault::NoneInForce { start } => *start,
+            VolumeFault::Area | VolumeFault::Full { .. } | VolumeFault::Frame { .. } => None,
         }
     }
 }
