@@ -49,6 +49,7 @@ fn walk_up(set: &ChannelSet, reach: u16, lowest: u16) -> Walk
 {
     let mut highest = lowest;
     let mut later = None;
+    // from each member to the next: a list of them would need room for 1024
     while let Some(c) = set.next_above(highest) {
         later = later.or(serves(set, reach, highest, c).then_some(c));
         highest = c;

@@ -4,7 +4,7 @@ ghost use Rattle.std.specs.Iterator.{YieldsFirst, item_count};
 ghost use Rattle.std.specs.List.{list_all};
 ghost use Rattle.packing.specs.Fields.{field};
 ghost use Rattle.packing.specs.Reading.{Unpacked, filled, leading, number_in, numbers_from, slots_in, unpacked};
-ghost use Rattle.packing.specs.Trips.{Again, Behind, Reads};
+ghost use Rattle.packing.specs.Trips.{Again, Behind, Heads, Levels, Only, Reads, Trip};
 
 use crate::{Range, Width, slots};
 use faults::FormatFault;
@@ -20,7 +20,20 @@ fn octet(octets: &[u8], k: usize) -> u8
     octets.get(k).copied().unwrap_or(0)
 }
 
-// The eight octets from that of a position on, as one number, where some may be past the end.
+// The eight octets from that of a position on, as one number; past the end they count 0.
+fn word(contents: &[u8], at: usize) -> u64
+    ensures { result ≡ field contents.now (8 * (at / 8)) 64 }
+{
+    let k = at / 8;
+    let Some(octets) = contents.get(k..k + 8) else {
+        return last_word(contents, at);
+    };
+    let mut eight = [0; 8];
+    eight.copy_from_slice(octets);
+    u64::from_be_bytes(eight)
+}
+
+// The same, octet by octet: near the end.
 fn last_word(contents: &[u8], at: usize) -> u64
     ensures { result ≡ field contents.now (8 * (at / 8)) 64 }
 {
@@ -36,19 +49,6 @@ fn last_word(contents: &[u8], at: usize) -> u64
         octet(contents, k + 6),
         octet(contents, k + 7),
     ])
-}
-
-// The same; past the end they count 0.
-fn word(contents: &[u8], at: usize) -> u64
-    ensures { result ≡ field contents.now (8 * (at / 8)) 64 }
-{
-    let k = at / 8;
-    let Some(octets) = contents.get(k..k + 8) else {
-        return last_word(contents, at);
-    };
-    let mut eight = [0; 8];
-    eight.copy_from_slice(octets);
-    u64::from_be_bytes(eight)
 }
 
 // The 64 bits of some octets from a position on.
@@ -156,6 +156,7 @@ impl<'a> Iterator for Numbers<'a> {
         let end = self.at + wide.bits as usize;
         let window = self.window.covering(self.at, end);
         let number = window.number(self.at, wide);
+        // all at once, since the invariant ties the fields
         *self = Numbers {
             range: self.range,
             i: self.i + 1,
@@ -190,12 +191,18 @@ pub fn unpack(range: Range, contents: &[u8], numbers: &mut [u16; 512]) -> Result
     ensures value { result ≡ unpacked range contents.now }
     ensures table { numbers.new ≡ filled (number_in range contents.now) (leading range contents.now) numbers.old }
     ensures meaning { Unpacked range contents.now numbers.new result }
-    // what is written is read again, and what is read is written so; the octets before the numbers do not matter
+    // what `pack` writes is read again, with its head and the widths that are meant, and only octets that are written so have the numbers
+    // in that way; the octets before the numbers do not matter
+    ensures trip { Trip }
+    ensures levels { Levels }
+    ensures only { Only }
+    ensures heads { Heads }
     ensures reads { Reads }
     ensures again { Again }
     ensures behind { Behind }
 {
     let mut rest = Numbers::of(range, contents);
+    // counted by hand: n is the answer, and the rest is handed on at the first null
     let mut n = 0;
     while let Some(number) = rest.next() {
         if number == 0 {

@@ -5,7 +5,7 @@ ghost use Rattle.packing.specs.Slots.{Slots, slots_of, row_counts};
 
 use crate::Range;
 
-// The longest contents of any range.
+// The longest contents of any range. Crate piles says the same of all lists; this one rests on no pile.
 const LONGEST: usize = 130;
 
 // How many numbers are present in contents of 1 .. 130 octets, for each range.
@@ -61,7 +61,8 @@ fn counts(range: Range) -> &'static [u16; LONGEST]
     }
 }
 
-// How many numbers are present in contents of a length: as many as fit whole, and none if there are no such contents.
+// How many numbers are present in contents of a length: as many as fit whole, and 0 if there are no such contents, as
+// the standard has lengths without numbers.
 pub fn slots(range: Range, len: usize) -> usize
     ensures value { result ≡ slots_of range len }
     ensures greatest { HasLength range len → Slots (width_of range) (start_of range) len result }

@@ -3,7 +3,6 @@ ghost use Rattle.std.specs.Prelude.{◌≡◌, ℕ, ◌+◌, ◌*◌, ◌%◌, �
 ghost use Rattle.packing.specs.Ranges.{start_of};
 ghost use Rattle.packing.specs.Fields.{Octets, bit_at};
 ghost use Rattle.packing.specs.Writing.{Packable, head_of, packed, stands, tail_of};
-ghost use Rattle.packing.specs.Trips.{Heads, Levels, Only, Trip};
 
 use crate::Range;
 
@@ -19,7 +18,7 @@ fn or_octet(out: &mut [u8], k: usize, bits: u8)
     }
 }
 
-// Puts the bits of a number, from a position on, to 1 where they are 1: they lie within three octets.
+// Puts the bits of a number, from a position on, to 1 where they are 1: they lie within three octets. No `Width`, since a head is wider.
 fn put(out: &mut [u8], at: usize, wide: u32, number: u32)
     requires within { at % 8 + wide ≤ 24 }
     requires narrow { number < 2 ^ wide }
@@ -59,20 +58,15 @@ pub fn pack(
     out: &mut [u8; 130],
 )
     requires { Packable range head (λ i. slice_index numbers.now i) n len }
-    ensures value { out.new ≡ packed range head (λ i. slice_index numbers.now i) n len ++ drop len out.old }
-    // the octets written hold the numbers, with the widths that are meant, and are the only ones that do
-    ensures trip { Trip }
-    ensures levels { Levels }
-    ensures only { Only }
-    // and the head is read from them again
-    ensures heads { Heads }
+    ensures { out.new ≡ packed range head (λ i. slice_index numbers.now i) n len ++ drop len out.old }
 {
     let octets = &mut out[..len];
     octets.fill(0);
     lay(range, head, &numbers[1..n + 1], octets);
 }
 
-// What stands before W(1): the mark of the range, and behind it the origin, or 0 or 1 for F0 in range 1024.
+// What stands before W(1): the mark of the range, and behind it the origin, or 0 or 1 for F0 in range 1024. `tail` is these bits as they stand
+// in the octets, whatever they mean.
 pub fn head(range: Range, tail: u16) -> u32
     ensures value { result ≡ head_of range tail }
     ensures bound { tail < 2 ^ tail_of range → result < 2 ^ start_of range }

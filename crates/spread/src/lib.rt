@@ -129,7 +129,9 @@ impl Ring<'_> {
     }
 }
 
-// A part of the tree, of a width: it takes the places j * stride + rest of the table, for j from 1 on.
+// A part of the tree, of a width: it takes the places j * stride + rest of the table, for j from 1 on. A part of width 0 has no members, and
+// so no circle and no parts of its own: these calls require a width, since `write` asks for none of them before it has two members. Places of
+// a table and no boxes: so the standard has a tree in octets, and the library has no memory of its own.
 #[derive(Clone, Copy)]
 struct Part {
     width: u32,
@@ -172,7 +174,8 @@ impl Part {
         }
     }
 
-    // The left part: the place j there is the place 2 j here.
+    // The left part: the place j there is the place 2 j here. It differs from the right one in `rest` alone; one call for both would ask
+    // for a rest below twice the stride.
     fn left(self) -> Part
         requires { 1 ≤ self.width }
         ensures width { result.width ≡ self.width - 1 }

@@ -61,11 +61,11 @@ fn spot(l: u32, i: usize) -> usize
     level + i % level
 }
 
-// A tree, whose W(i) stands at the index i of a table.
+// A tree, whose W(i) stands at the index i of a table: so the standard has it in octets, and the library has no memory of its own for boxes.
 #[derive(Clone, Copy)]
 pub struct Tree<'a> {
-    table: &'a [u16],
-    width: u32,
+    pub table: &'a [u16],
+    pub width: u32,
     pub ghost narrow: { width ≤ 10 },
 }
 

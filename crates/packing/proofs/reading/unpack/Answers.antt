@@ -7,7 +7,8 @@ use Rattle.std.proofs.lemmas.Bool.{cases_eq}
 use Rattle.packing.specs.Reading.{number_in, numbers_from, slots_in, first_null, unpacked, leading, filled, Unpacked}
 use Rattle.packing.proofs.Counts.{slots_small}
 use Rattle.packing.proofs.Readings.{front_is, none-left, behind-null, first_is, first-none, unpacked-first, unpacked-all, leading-first, leading-all, filled_means, filled_none, filled_more}
-use Rattle.packing.proofs.Trips.{reads, again, behind}
+use Rattle.packing.proofs.Trips.{trip, only, heads, reads, again, behind}
+use Rattle.packing.proofs.Widths.{level_is}
 use Rattle.packing.proofs.reading.unpack.Goals as goal
 
 pub loop-number-init : goal.loop-number-init
@@ -53,7 +54,7 @@ returns-then-number-eq0 c =
     c.behind_null.ensures ∙ ap (λ ws. if list_all (λ w. eqb w 0) ws then Ok n else Err (NumberAfterNull (suc n))) f.others
     ∙ behind-null r os n (slots_in r os - n - 1) (omega arith) ∙ unpacked-first r os n found in
     let d = answered r os c.args.numbers.now c.loop-number.numbers n c.behind_null.result e (leading-first r os n found) v.table (omega (arith, slots_small r (length os))) in
-    record { value = d.value; table = d.table; meaning = d.meaning; reads = reads; again = again; behind = behind }
+    record { value = d.value; table = d.table; meaning = d.meaning; trip = trip; levels = level_is; only = only; heads = heads; reads = reads; again = again; behind = behind }
 
 pub overflow_add-n : goal.overflow_add-n
 overflow_add-n c = record { fits = omega (arith, slots_small c.args.range (length c.args.contents.now), c.loop-number.invariant.few) }
@@ -95,4 +96,4 @@ returns c =
     let t : n ≡ slots_in r os = omega (arith, v.few) in
     let f = first-none r os (λ j a b. v.some j a (omega arith)) in
     let d = answered r os c.args.numbers.now c.loop-number.numbers n (Ok n) (ap Ok t ∙ unpacked-all r os f) (t ∙ leading-all r os f) v.table (omega (arith, slots_small r (length os))) in
-    record { value = d.value; table = d.table; meaning = d.meaning; reads = reads; again = again; behind = behind }
+    record { value = d.value; table = d.table; meaning = d.meaning; trip = trip; levels = level_is; only = only; heads = heads; reads = reads; again = again; behind = behind }

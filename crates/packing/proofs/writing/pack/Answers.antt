@@ -2,9 +2,7 @@ use Rattle.std.proofs.Common.{◌≡◌, ℕ, ◌-◌, ◌+◌, ◌++◌, length
 use Rattle.std.proofs.lemmas.List.{length-take-le, length-replicate, get_or-replicate}
 use Rattle.packing.specs.Writing.{packed}
 use Rattle.packing.proofs.Counts.{slots_small}
-use Rattle.packing.proofs.Widths.{level_is}
 use Rattle.packing.proofs.Packings.{packed-same, packable-same, part_at, part-long}
-use Rattle.packing.proofs.Trips.{trip, only, heads}
 use Rattle.packing.proofs.writing.pack.Goals as goal
 
 pub overflow_add-n : goal.overflow_add-n
@@ -25,8 +23,8 @@ lay-requires c =
       zeros = λ k l. ap (λ os. get_or os k 0) z ∙ get_or-replicate _ k 0 0 (omega (arith, ap length z, length-replicate {A = ℕ} (length (take len c.args.out.now)) 0));
     }
 
-pub returns-clause-value : goal.returns-clause-value
-returns-clause-value c =
+pub returns : goal.returns
+returns c =
     let r = c.args.range in
     let h = c.args.head in
     let ns = c.args.numbers.now in
@@ -40,15 +38,3 @@ returns-clause-value c =
     ∙ ap₂ (packed r h V) (part-long ns n (omega (arith, slots_small c.args.range len, c.requires.few))) (ap length z ∙ length-replicate _ 0 ∙ long)
     ∙ packed-same r h V (λ i. get_or ns i 0) n len (part_at ns n))
     refl
-
-pub returns-clause-trip : goal.returns-clause-trip
-returns-clause-trip c = trip
-
-pub returns-clause-levels : goal.returns-clause-levels
-returns-clause-levels c = level_is
-
-pub returns-clause-only : goal.returns-clause-only
-returns-clause-only c = only
-
-pub returns-clause-heads : goal.returns-clause-heads
-returns-clause-heads c = heads
