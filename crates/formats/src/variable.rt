@@ -80,26 +80,35 @@ fn set_in(contents: &[u8]) -> ChannelSet
     turned_up(&ahead_of_orig(contents), origin_of(contents))
 }
 
-// What the octet with index j comes to: facts that a call brings in.
-fn octets_are(seen: &ChannelSet, orig: u16, j: usize)
-    requires { orig < 1024 }
-    ensures first { j ≡ 0 → 142 + orig / 512 ≡ variable_octet seen.now orig j }
-    ensures second { j ≡ 1 → orig / 2 % 256 ≡ variable_octet seen.now orig j }
-    ensures third { j ≡ 2 → reverse_bits_onto 8 (eight_from seen.now 0) 0 % 128 + orig % 2 * 128 ≡ variable_octet seen.now orig j }
-    ensures others { 2 < j → reverse_bits_onto 8 (eight_from seen.now (8 * (j - 2))) 0 ≡ variable_octet seen.now orig j }
-{}
+// A set as it is seen from ORIG.
+#[derive(Clone, Copy)]
+struct Seen {
+    set: ChannelSet,
+    orig: u16,
+    ghost low: { orig < 1024 },
+}
 
-// The octet with index j of a set that is seen from ORIG.
-fn octet(seen: &ChannelSet, orig: u16, j: usize) -> u8
-    requires { (orig < 1024) × (j < 130) }
-    ensures { result ≡ variable_octet seen.now orig j }
-{
-    octets_are(seen, orig, j);
-    match j {
-        0 => CLAIM + (orig / 512) as u8,
-        1 => (orig / 2 % 256) as u8,
-        2 => seen.eight_from(0).reverse_bits() % 128 + (orig % 2) as u8 * 128,
-        _ => seen.eight_from(8 * (j as u16 - 2)).reverse_bits(),
+impl Seen {
+    // What the octet with index j comes to: facts that a call brings in.
+    fn octets_are(&self, j: usize)
+        ensures first { j ≡ 0 → 142 + self.now.orig / 512 ≡ variable_octet self.now.set self.now.orig j }
+        ensures second { j ≡ 1 → self.now.orig / 2 % 256 ≡ variable_octet self.now.set self.now.orig j }
+        ensures third { j ≡ 2 → reverse_bits_onto 8 (eight_from self.now.set 0) 0 % 128 + self.now.orig % 2 * 128 ≡ variable_octet self.now.set self.now.orig j }
+        ensures others { 2 < j → reverse_bits_onto 8 (eight_from self.now.set (8 * (j - 2))) 0 ≡ variable_octet self.now.set self.now.orig j }
+    {}
+
+    // The octet with index j.
+    fn octet(&self, j: usize) -> u8
+        requires { j < 130 }
+        ensures { result ≡ variable_octet self.now.set self.now.orig j }
+    {
+        self.octets_are(j);
+        match j {
+            0 => CLAIM + (self.orig / 512) as u8,
+            1 => (self.orig / 2 % 256) as u8,
+            2 => self.set.eight_from(0).reverse_bits() % 128 + (self.orig % 2) as u8 * 128,
+            _ => self.set.eight_from(8 * (j as u16 - 2)).reverse_bits(),
+        }
     }
 }
 
@@ -110,9 +119,12 @@ fn put_from(set: &ChannelSet, orig: u16, len: usize, out: &mut [u8; 130])
     ensures front { take len out.new ≡ variable_octets set.now len orig }
     ensures rest { drop len out.new ≡ drop len out.old }
 {
-    let seen = turned_down(set, orig);
+    let seen = Seen {
+        set: turned_down(set, orig),
+        orig,
+    };
     for (j, o) in out[..len].iter_mut().enumerate() {
-        *o = octet(&seen, orig, j);
+        *o = seen.octet(j);
     }
 }
 

@@ -1,4 +1,4 @@
-ghost use Rattle.std.specs.Prelude.{◌≡◌, ℕ, ◌<◌, Ok, Err};
+ghost use Rattle.std.specs.Prelude.{◌≡◌, ℕ, ◌<◌, Some, None, Ok, Err, MatchResult};
 ghost use Rattle.claims.specs.Views.{claims, shared};
 ghost use Rattle.piles.specs.Combined.{beside_of};
 ghost use Rattle.piles.specs.Combine.{beside_keeps};
@@ -15,24 +15,36 @@ pub struct Beside<A, B> {
     pub second: B,
 }
 
-// The lowest first octet that both claim.
-fn clash<A: Pile, B: Pile>(a: &A, b: &B) -> Option<u8>
-    ensures { result ≡ shared (A.meaning a.now).claimed (B.meaning b.now).claimed }
-{
-    let x = a.claims();
-    let y = b.claims();
-    x.common(&y)
-}
+impl<A: Pile, B: Pile> Beside<A, B> {
+    // The lowest first octet that both claim.
+    fn clash(&self) -> Option<u8>
+        ensures { result ≡ shared (A.meaning self.now.first).claimed (B.meaning self.now.second).claimed }
+    {
+        let x = self.first.claims();
+        let y = self.second.claims();
+        x.common(&y)
+    }
 
-// What either claims, unless they claim something in common.
-fn joint<A: Pile, B: Pile>(a: &A, b: &B) -> Claims
-    ensures { (o : ℕ) → o < 256 → claims result o ≡ (beside_of (A.meaning a.now) (B.meaning b.now)).claimed o }
-{
-    let x = a.claims();
-    let y = b.claims();
-    match x.common(&y) {
-        Some(_) => Claims::none(),
-        None => x.union(&y),
+    // Refuses if both claim an octet.
+    fn apart(&self) -> Result<(), PileFault>
+        ensures { MatchResult result (λ _. shared (A.meaning self.now.first).claimed (B.meaning self.now.second).claimed ≡ None) (λ f. (o : ℕ) × ((shared (A.meaning self.now.first).claimed (B.meaning self.now.second).claimed ≡ Some o) × (f ≡ PileFault.SharedClaim o))) }
+    {
+        match self.clash() {
+            Some(o) => Err(PileFault::SharedClaim(o)),
+            None => Ok(()),
+        }
+    }
+
+    // What either claims, unless they claim something in common.
+    fn joint(&self) -> Claims
+        ensures { (o : ℕ) → o < 256 → claims result o ≡ (beside_of (A.meaning self.now.first) (B.meaning self.now.second)).claimed o }
+    {
+        let x = self.first.claims();
+        let y = self.second.claims();
+        match x.common(&y) {
+            Some(_) => Claims::none(),
+            None => x.union(&y),
+        }
     }
 }
 
@@ -49,13 +61,11 @@ impl<A: Pile, B: Pile> Pile for Beside<A, B> {
     ghost lawful = { λ p. beside_keeps (A.meaning p.first) (B.meaning p.second) (A.lawful p.first) (B.lawful p.second) };
 
     fn claims(&self) -> Claims {
-        joint(&self.first, &self.second)
+        self.joint()
     }
 
     fn read(&self, contents: &[u8], set: &mut ChannelSet) -> Result<(), PileFault> {
-        if let Some(o) = clash(&self.first, &self.second) {
-            return Err(PileFault::SharedClaim(o));
-        }
+        self.apart()?;
         let first = first_octet(contents)?;
         if claims_one(&self.first, first) {
             return self.first.read(contents, set);
@@ -67,9 +77,8 @@ impl<A: Pile, B: Pile> Pile for Beside<A, B> {
     }
 
     fn write(&self, set: &ChannelSet, len: usize, out: &mut [u8; 130]) -> Result<(), PileFault> {
-        if let Some(o) = clash(&self.first, &self.second) {
-            return Err(PileFault::SharedClaim(o));
-        }
+        self.apart()?;
+        // with `or_else` the proof did not close: its closure takes the octets with it
         match self.first.write(set, len, out) {
             Ok(()) => Ok(()),
             Err(_) => self.second.write(set, len, out),

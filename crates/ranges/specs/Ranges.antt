@@ -1,5 +1,5 @@
 -- The four range formats. What is read stands for members by their distance from a base: the origin, or channel 0 in range 1024.
-use Rattle.std.specs.Prelude.{ℕ, suc, ◌+◌, ◌%◌, Bool, true, cond, not, ◌&&◌, List, length, is_some, Some, None, Ok, Err, Option, Result, ◌==◌, bit_and, nat_eq, nat_le, slice_index}
+use Rattle.std.specs.Prelude.{ℕ, suc, ◌+◌, ◌%◌, Bool, true, cond, if◌then◌else◌, not, ◌&&◌, List, length, is_some, Some, None, Ok, Err, Option, Result, ◌==◌, bit_and, nat_eq, nat_le, slice_index}
 use Rattle.bits.specs.Lowest.{lowest}
 use Rattle.channels.specs.declared.ChannelSet.{ChannelSet}
 use Rattle.channels.specs.Sets.{holds, set_of}
@@ -19,7 +19,7 @@ use Rattle.origins.specs.Origins.{ahead, origin_of}
 
 -- the range whose first number has K bits
 abbrev pub range_at : ℕ → Range
-range_at K = cond (K == 7) R128 (cond (K == 8) R256 (cond (K == 9) R512 R1024))
+range_at K = if K == 7 then R128 else if K == 8 then R256 else if K == 9 then R512 else R1024
 
 -- bits 8, 7, 4, 3, 2 of the first octet: 1 0 0 - -, 1 0 1 0 0, 1 0 1 0 1, 1 0 1 1 0
 abbrev pub claim_of : Range → Claim

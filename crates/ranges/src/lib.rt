@@ -4,6 +4,7 @@
 ghost use Rattle.std.specs.Prelude.{◌≡◌, ℕ, ◌<◌, ◌≤◌, [], ◌∷◌};
 ghost use Rattle.bits.specs.Bits.{bit_within};
 ghost use Rattle.claims.specs.Views.{claims};
+ghost use Rattle.packing.specs.Ranges.{width_of};
 ghost use Rattle.packing.specs.declared.Range.TheVariants.{R1024, R512, R256, R128};
 ghost use Rattle.ranges.specs.Ranges.{range_at, range_codec, claim_of, fits_of};
 ghost use Rattle.ranges.specs.RangeLaws.{range_faithful};
@@ -75,7 +76,8 @@ pub type Range128 = RangeOf<7>;
 
 impl<const K: u32> RangeOf<K> {
     fn range(&self) -> Range
-        ensures { result ≡ range_at K }
+        ensures range { result ≡ range_at K }
+        ensures width { width_of result ≡ K }
     {
         match K {
             7 => Range::R128,

@@ -10,7 +10,7 @@ use origins::turned_up;
 use packing::{Range, flag_of, origin_of, unpack};
 use tree::Tree;
 
-// The channel that distances are counted from, and whether it is itself in the list.
+// The channel that distances are counted from, and whether it is itself in the list: they are counted from it either way.
 #[derive(Clone, Copy)]
 struct Base {
     channel: u16,
@@ -61,7 +61,7 @@ impl Base {
         turned_up(&set, self.channel)
     }
 
-    // The set that the first n numbers of a tree stand for.
+    // The set that the first n numbers of a tree stand for: its table has room for more than were read.
     fn stand_for(self, tree: &Tree, n: usize) -> ChannelSet
         requires room { n ≤ 512 }
         requires there { reaches tree.now.table.now tree.now.width n ≡ true }

@@ -22,7 +22,9 @@ pub(crate) fn base_of(range: Range, set: &ChannelSet) -> Option<u16>
     }
 }
 
-// What stands behind the mark of the range: whether channel 0 is in the list, or the origin.
+// Set and base are parameters of these calls: a struct of them would be made in `encode` of the format and taken apart here.
+
+// What stands behind the mark of the range, in bits: whether channel 0 is in the list, or the origin.
 fn tail(range: Range, set: &ChannelSet, base: u16) -> u16
     ensures { result ≡ tail_in range set.now base }
 {

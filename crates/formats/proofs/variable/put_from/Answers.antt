@@ -11,7 +11,7 @@ pub loop-j-preserved : goal.loop-j-preserved
 loop-j-preserved c =
     let o = c.args.orig in
     let f = variable_octet (seen_from c.args.set.now o) o in
-    ap (slice_set c.loop-j.o-items c.loop-j.j) (c.octet.ensures ∙ ap (λ (t : ChannelSet). variable_octet t o c.loop-j.j) c.turned_down-seen.ensures.value)
+    ap (slice_set c.loop-j.o-items c.loop-j.j) (c.octet.ensures ∙ ap (λ (t : ChannelSet). variable_octet t o c.loop-j.j) c.turned_down.ensures.value)
     ∙ front_more f c.loop-j.o-items (take c.args.len c.args.out.now) c.loop-j.j (omega arith) c.loop-j.invariant
 
 pub returns : goal.returns

@@ -46,4 +46,4 @@ returns c =
     let table = c.plant-n.new.table in
     let tree : Planted (width_of r) ds table = subst (λ k. Planted k ds table) c.top_width.ensures c.plant-n.ensures.tree in
     encoded r s o c.requires.base ds c.others_from-distances.ensures table c.plant-n.result c.args.len tree c.plant-n.ensures.count
-    (omega (arith, c.plant-n.ensures.count, c.size.ensures, c.slots.ensures.value, c.if-size-slots.false)) c.tail.result c.head.result c.args.out.now c.pack.new.out c.tail.ensures c.head.ensures.value c.pack.ensures.value
+    (omega (arith, c.plant-n.ensures.count, c.size.ensures, c.slots.ensures.value, c.if-size-slots.false)) c.tail.result c.head.result c.args.out.now c.pack.new.out c.tail.ensures c.head.ensures.value c.pack.ensures
