@@ -19,7 +19,7 @@ pub enum SetCall {
 }
 
 // A pile by its name, in which up to four of the words beside and licence stand around one another. A type that contains itself
-// would have no such bound, but it could not be made of `Beside` and `Licence`, and would do again what they do.
+// by a `Box` would have no such bound, and would do again what `Beside` and `Licence` do, since these hold their parts by value.
 pub type Named = Nest<Nest<Nest<Nest<Plain>>>>;
 
 // What a pile is asked.
@@ -62,7 +62,8 @@ fn set(text: &str) -> Result<Call, Unread> {
     Ok(Call::Set(call.parse()?, channels(of)?))
 }
 
-// A range by the width of its first number. Its type is another crate's, and so is `FromStr`, which can't be given to it here.
+// A range by the width of its first number. No `FromStr`: these words are this program's, and crate packing, which alone could give it one,
+// knows no text.
 fn range(width: &str) -> Result<Range, Unread> {
     match width {
         "10" => Ok(Range::R1024),

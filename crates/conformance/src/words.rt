@@ -89,7 +89,7 @@ fn blank_separated(text: &str) -> Result<ChannelSet, Unread> {
         return Err(Unread::Call);
     }
     let mut set = ChannelSet::new();
-    // a loop, since two steps in each turn can fail
+    // a `for`, since each turn has two `?`
     for word in text.split_whitespace() {
         set.add(number(word)?)?;
     }
@@ -101,13 +101,14 @@ pub fn channels(text: &str) -> Result<ChannelSet, Unread> {
     listed(text, ChannelSet::new(), blank_separated)
 }
 
+// Crate plans has its own, which leaves the set where it refuses; here a refused set is dropped.
 fn add_span(set: &mut ChannelSet, span: Span) -> Result<(), SetFault> {
     (span.low..=span.high).try_for_each(|c| set.add(c))
 }
 
 fn plus_separated(text: &str) -> Result<ChannelSet, Unread> {
     let mut set = ChannelSet::new();
-    // a loop, since two steps in each turn can fail
+    // a `for`, since each turn has two `?`
     for word in text.split('+') {
         add_span(&mut set, Span::try_from(word.as_bytes())?)?;
     }

@@ -20,21 +20,17 @@ enum Source {
     File(String),
 }
 
-#[derive(Drop)]
-enum Command {
-    Help,
-    Compose(Source),
-}
-
-impl Source {
-    fn of(name: String) -> Source {
+impl From<String> for Source {
+    fn from(name: String) -> Source {
         if name.as_str() == "-" {
             Source::Input
         } else {
             Source::File(name)
         }
     }
+}
 
+impl Source {
     fn read(&self, rt: &HostRuntime) -> io::Result<String> {
         match self {
             Source::Input => io::read_to_string(rt.alloc(), rt.stdin()),
@@ -52,6 +48,12 @@ impl fmt::Display for Source {
     }
 }
 
+#[derive(Drop)]
+enum Command {
+    Help,
+    Compose(Source),
+}
+
 // What the arguments ask for, if they ask for anything that can be done.
 fn asked(rt: &HostRuntime) -> io::Result<Option<Command>> {
     let mut args = env::args(rt)?;
@@ -65,7 +67,7 @@ fn asked(rt: &HostRuntime) -> io::Result<Option<Command>> {
     }
     match (verb.as_str(), word) {
         ("help", None) => Ok(Some(Command::Help)),
-        ("compose", Some(plan)) => Ok(Some(Command::Compose(Source::of(plan)))),
+        ("compose", Some(plan)) => Ok(Some(Command::Compose(Source::from(plan)))),
         _ => Ok(None),
     }
 }

@@ -29,10 +29,8 @@ pub(crate) fn digit_at(word: &[u8], i: usize) -> Result<u16, WordFault>
     ensures within { OnOk result (i < length word.now) }
     ensures place { IfErr result (λ f. f.offset ≡ i) }
 {
-    match word.get(i).copied().and_then(digit) {
-        Some(d) => Ok(d as u16),
-        None => Err(Expected::HexDigit.at(i)),
-    }
+    let d = word.get(i).copied().and_then(digit);
+    d.map(|d| d as u16).ok_or(Expected::HexDigit.at(i))
 }
 
 // A cell is written as it is read.
@@ -59,7 +57,8 @@ impl fmt::Display for Octet {
     }
 }
 
-// Octets as text, with a blank between two.
+// Octets as text, with a blank between two. Ranges of channels are written so too, each on its own: an octet is printed by a wrapper, and
+// one form for both would take a slice of wrappers.
 #[derive(Clone, Copy)]
 pub struct Hex<'a>(pub &'a [u8]);
 

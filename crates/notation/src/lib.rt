@@ -29,7 +29,8 @@ pub enum Expected {
     LiveArea,
 }
 
-// What is wrong with a word: the place of the byte at fault, the first being 0, and what should have stood there.
+// What is wrong with a word: the place of the byte at fault, the first being 0, and what should have stood there. That the place is within
+// the word is said at each call and not in the type, which knows no word.
 #[derive(Clone, Copy, Debug, PartialEq, Eq)]
 pub struct WordFault {
     pub offset: usize,

@@ -6,7 +6,7 @@ use crate::Expected;
 use faults::{Layer, Refusal};
 use std::fmt;
 
-// The name of a layer; `Layer` is of another crate, which alone can give it a `Display`.
+// The name of a layer. No `Display`: crate faults, which alone could give it one, knows no text.
 pub fn layer_name(layer: Layer) -> &'static str
     ensures { result.now ≡ name_of layer }
 {
@@ -37,22 +37,27 @@ pub fn sentence(number: u8) -> &'static str
 }
 
 // What should have stood in a word.
+#[tactic(auto, unfolding(crate::specs::Told::expected_text))]
+pub fn expected_words(expected: Expected) -> &'static str
+    ensures { result.now ≡ expected_text expected }
+{
+    match expected {
+        Expected::Digit => "a digit",
+        Expected::DigitOrEnd => "a digit or the end of the word",
+        Expected::DigitOrDash => "a digit, a dash or the end of the word",
+        Expected::NotBelow => "a number not below the one before the dash",
+        Expected::HexDigit => "a hexadecimal digit",
+        Expected::Colon => "a colon",
+        Expected::End => "the end of the word",
+        Expected::LiveArea => "an area code other than 0000 and FFFE, which mark a deleted area",
+    }
+}
+
 impl fmt::Display for Expected {
     ghost output = { λ e. Some (expected_text e) };
 
     fn fmt<W: fmt::Write>(&self, f: &mut fmt::Formatter<W>) -> fmt::Result {
-        f.write_str(match self {
-            Expected::Digit => "a digit",
-            Expected::DigitOrEnd => "a digit or the end of the word",
-            Expected::DigitOrDash => "a digit, a dash or the end of the word",
-            Expected::NotBelow => "a number not below the one before the dash",
-            Expected::HexDigit => "a hexadecimal digit",
-            Expected::Colon => "a colon",
-            Expected::End => "the end of the word",
-            Expected::LiveArea => {
-                "an area code other than 0000 and FFFE, which mark a deleted area"
-            }
-        })
+        f.write_str(expected_words(*self))
     }
 }
 

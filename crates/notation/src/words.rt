@@ -105,7 +105,7 @@ impl TryFrom<&[u8]> for Span {
     }
 }
 
-// The four hexadecimal digits from a place on.
+// The four hexadecimal digits from a place on. Four calls: the first that is no digit tells its own place.
 fn four_at(word: &[u8], i: usize) -> Result<u16, WordFault>
     requires { i ≤ length word.now }
     ensures value { result ≡ four_at word.now i }
@@ -119,7 +119,7 @@ fn four_at(word: &[u8], i: usize) -> Result<u16, WordFault>
     Ok(((a * 16 + b) * 16 + c) * 16 + d)
 }
 
-// A code of four hexadecimal digits. It is a bare number, which has its own conversion from bytes.
+// A code of four hexadecimal digits; a function as `number` is.
 #[tactic(auto, using(crate::proofs::Backs::code_back))]
 pub fn code(word: &[u8]) -> Result<u16, WordFault>
     ensures value { result ≡ code_of word.now }

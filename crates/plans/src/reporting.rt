@@ -1,13 +1,13 @@
 // The report on a line of a plan.
 ghost use Rattle.std.specs.Prelude.{◌≡◌, ℕ, length, IfOk, Some, string_bytes};
 ghost use Rattle.plans.specs.Lines.{Inside, line_of};
-ghost use Rattle.plans.specs.Reports.{head_text, likeness_text, composed_text, Reported, nothing_text, why_text, verdict_of, Complained, Answered};
+ghost use Rattle.plans.specs.Reports.{head_text, likeness_text, composed_text, refused_text, Reported, nothing_text, why_text, verdict_of, Complained, Answered};
 
 use crate::composing::compose_and_read;
 use crate::reading::parse;
 use crate::{Answer, Complaint, Entry, Trial, Verdict, Why, plural};
 use channels::ChannelSet;
-use faults::Fault;
+use faults::{Fault, PileFault};
 use notation::hex::Hex;
 use notation::lists;
 use notation::told::Told;
@@ -46,6 +46,15 @@ fn composed(heap: Global, trial: &Trial, channels: &ChannelSet) -> Result<String
     format!(in heap; "  composed in 16 octets: {octets}\n  read back: {back}, {same}\n")
 }
 
+// What a pile refuses, in a line of its own.
+#[tactic(auto, unfolding(crate::specs::Reports::refused_text))]
+fn refused(heap: Global, fault: PileFault) -> Result<String, AllocError>
+    ensures { IfOk result (λ s. string_bytes s ≡ refused_text fault) }
+{
+    let told = Told(fault.refusal());
+    format!(in heap; "  refused: {told}\n")
+}
+
 // The report on a cell: what it has, the octets that its channels are composed of, and what these are read back as.
 pub fn report<P: Pile>(
     heap: Global,
@@ -56,25 +65,12 @@ pub fn report<P: Pile>(
     ensures { IfOk result (Reported number entry.now ((P.meaning pile.now).writes entry.now.channels 16)) }
 {
     let mut text = head(heap, number, entry)?;
-    match compose_and_read(pile, &entry.channels) {
-        Ok(trial) => {
-            let more = composed(heap, &trial, &entry.channels)?;
-            text.push_str(more.as_str())?;
-            Ok(Answer {
-                verdict: Verdict::Composed,
-                text,
-            })
-        }
-        Err(fault) => {
-            let told = Told(fault.refusal());
-            let more = format!(in heap; "  refused: {told}\n")?;
-            text.push_str(more.as_str())?;
-            Ok(Answer {
-                verdict: Verdict::Refused,
-                text,
-            })
-        }
-    }
+    let (verdict, more) = match compose_and_read(pile, &entry.channels) {
+        Ok(trial) => (Verdict::Composed, composed(heap, &trial, &entry.channels)?),
+        Err(fault) => (Verdict::Refused, refused(heap, fault)?),
+    };
+    text.push_str(more.as_str())?;
+    Ok(Answer { verdict, text })
 }
 
 // A part of a word as it was found, in quotes.

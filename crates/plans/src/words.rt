@@ -25,7 +25,7 @@ fn is_solid(b: u8) -> bool
     b != HASH && !is_blank(b)
 }
 
-// How many blanks stand in front.
+// How many blanks stand in front. This and the next are a chain each: one for both would take the test and what it means besides.
 fn blanks(bytes: &[u8]) -> usize
     ensures value { result ≡ prefix_len blank bytes.now }
     ensures within { result ≤ length bytes.now }
@@ -76,6 +76,7 @@ impl<'a> Word<'a> {
     {
         let start = self.start;
         let end = self.end();
+        // written out, here and in `add_to`: of a closure that captures a word whole nothing is inferred
         read.map_err(|fault| Complaint {
             start: start + fault.offset,
             end,
@@ -132,10 +133,9 @@ pub struct Words<'a> {
 impl<'a> Model for Words<'a> {
     ghost use Rattle.std.specs.Prelude.{◌≤◌, length, List};
     ghost use Rattle.plans.specs.Pieces.{Piece};
+    ghost use Rattle.plans.specs.Words.{words_after};
 
     ghost Value = { List Piece };
-
-    ghost use Rattle.plans.specs.Words.{words_after};
 
     ghost view = { λ w. words_after w.line.now w.at };
 
