@@ -3,11 +3,8 @@ use Rattle.std.proofs.lemmas.List.{get_or-take, get_or-drop, length-drop, length
 use Rattle.channels.specs.declared.ChannelSet.{ChannelSet}
 use Rattle.channels.specs.Sets.{holds, put_eight}
 use Rattle.channels.proofs.Views.{changed}
-use Rattle.formats.proofs.VariableOctets.{none-marked, marked_more, all-marked}
+use Rattle.formats.proofs.VariableOctets.{marked_more, all-marked}
 use Rattle.formats.proofs.variable.ahead_of_orig.Goals as goal
-
-pub loop-i-init : goal.loop-i-init
-loop-i-init c n l = ap (λ (s : ChannelSet). holds s n) c.new-seen.ensures.empty ∙ none-marked c.args.contents.now n
 
 pub loop-i-preserved : goal.loop-i-preserved
 loop-i-preserved c n l =

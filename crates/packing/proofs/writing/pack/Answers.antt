@@ -1,8 +1,8 @@
 use Rattle.std.proofs.Common.{◌≡◌, ℕ, ◌-◌, ◌+◌, ◌++◌, length, get_or, take, drop, refl, ap, ap₂, ◌∙◌, arith}
-use Rattle.std.proofs.lemmas.List.{length-take-le, length-replicate, get_or-replicate}
+use Rattle.std.proofs.lemmas.List.{length-take-le, length-replicate}
 use Rattle.packing.specs.Writing.{packed}
 use Rattle.packing.proofs.Counts.{slots_small}
-use Rattle.packing.proofs.Packings.{packed-same, packable-same, part_at, part-long}
+use Rattle.packing.proofs.Packings.{packed-same, part_at, part-long}
 use Rattle.packing.proofs.writing.pack.Goals as goal
 
 pub overflow_add-n : goal.overflow_add-n
@@ -10,18 +10,6 @@ overflow_add-n c = record { fits = omega (arith, slots_small c.args.range c.args
 
 pub slice_bounds-lay-end : goal.slice_bounds-lay-end
 slice_bounds-lay-end c = omega (arith, slots_small c.args.range c.args.len, c.requires.few)
-
-pub lay-requires : goal.lay-requires
-lay-requires c =
-    let ns = c.args.numbers.now in
-    let n = c.args.n in
-    let len = c.args.len in
-    let z = c.fill.ensures.after (λ y e. e) in
-    let long : length (take len c.args.out.now) ≡ len = length-take-le len c.args.out.now (omega (arith, c.requires.held.most)) in
-    record {
-      packable = packable-same c.args.range c.args.head _ (λ i. get_or ns i 0) _ n _ len (part-long ns n (omega (arith, slots_small c.args.range len, c.requires.few))) (ap length z ∙ length-replicate _ 0 ∙ long) (part_at ns n) c.requires;
-      zeros = λ k l. ap (λ os. get_or os k 0) z ∙ get_or-replicate _ k 0 0 (omega (arith, ap length z, length-replicate {A = ℕ} (length (take len c.args.out.now)) 0));
-    }
 
 pub returns : goal.returns
 returns c =

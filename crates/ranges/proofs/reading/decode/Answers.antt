@@ -1,15 +1,10 @@
-use Rattle.std.proofs.Common.{◌≡◌, length, Ok, sym, ap, ◌∙◌, ap₂, arith}
+use Rattle.std.proofs.Common.{◌≡◌, Ok, sym, ap, ◌∙◌, ap₂}
 use Rattle.channels.specs.Sets.{set_of}
 use Rattle.packing.specs.Reading.{unpacked}
-use Rattle.packing.proofs.Counts.{slots_small}
 use Rattle.tree.specs.Number.{entries}
 use Rattle.ranges.specs.Ranges.{base_in, base_held, member, range_read}
-use Rattle.ranges.specs.Readings.{few}
 use Rattle.ranges.proofs.Gathers.{there, table-circle, table-set}
 use Rattle.ranges.proofs.reading.decode.Goals as goal
-
-pub stand_for-requires-clause-room : goal.stand_for-requires-clause-room
-stand_for-requires-clause-room c = omega (arith, few c.args.range c.args.contents.now c.in_ok-n.n (sym c.in_ok-n.ensures.value), slots_small c.args.range (length c.args.contents.now))
 
 pub stand_for-requires-clause-there : goal.stand_for-requires-clause-there
 stand_for-requires-clause-there c =

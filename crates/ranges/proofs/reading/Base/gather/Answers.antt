@@ -1,8 +1,8 @@
-use Rattle.std.proofs.Common.{true, get_or, ap, ◌∙◌, arith}
+use Rattle.std.proofs.Common.{true, get_or, ap, ◌∙◌}
 use Rattle.channels.specs.declared.ChannelSet.{ChannelSet}
 use Rattle.channels.specs.Sets.{holds, put}
 use Rattle.channels.proofs.Views.{changed}
-use Rattle.ranges.proofs.Gathers.{gather_none, gather_more, gather_all}
+use Rattle.ranges.proofs.Gathers.{gather_none, gather_more}
 use Rattle.ranges.proofs.reading.Base.gather.Goals as goal
 
 pub loop-d-init : goal.loop-d-init
@@ -15,7 +15,3 @@ loop-d-preserved c k l =
     let v = c.requires j c.loop-d-test.true in
     ap (λ (s : ChannelSet). holds s k) (changed (get_or ds j 0) c.add.result _ (put c.loop-d.set (get_or ds j 0) true) _ v.1 c.add.ensures)
     ∙ gather_more ds c.args.self.held j c.loop-d.set v c.loop-d.invariant k l
-
-pub returns : goal.returns
-returns c =
-    gather_all c.args.distances.now c.args.self.held c.args.self.channel c.loop-d.d-index c.loop-d.set c.turned_up.result c.args.self.low (omega arith) c.loop-d.invariant c.turned_up.ensures.value
