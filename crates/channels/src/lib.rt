@@ -2,7 +2,10 @@
 // for each, in sixteen words of 64.
 #![tactic(auto)]
 
-ghost use Rattle.std.specs.Prelude.{◌≡◌, ℕ, ◌+◌, ◌-◌, ◌*◌, ◌%◌, ◌<◌, ◌≤◌, true, false, take, drop};
+ghost use Rattle.std.specs.Prelude.{◌≡◌, ℕ, ◌+◌, ◌-◌, ◌*◌, ◌%◌, ◌<◌, ◌≤◌, Decides, ◌==◌, true, false, take, drop};
+ghost use Rattle.std.specs.Cmp.Rules.{comparing};
+ghost use Rattle.std.proofs.Common.{rules};
+ghost use Rattle.std.specs.Cmp.Lexicographic.{pointwise};
 ghost use Rattle.bits.specs.Bits.{bit};
 ghost use Rattle.channels.specs.Sets.{holds, no_channels, all_channels, put, put_eight, eight_from, turned, size_of, next_above, first_outside, within, members_of, Listed, Changed, IsEquality, ViewLaws, MemberLaws};
 
@@ -16,10 +19,27 @@ use std::array;
 
 const WORDS: usize = 16;
 
-// Equal sets are equal values.
-#[derive(Clone, Copy, PartialEq, Eq, Debug)]
+#[derive(Clone, Copy, Debug)]
 pub struct ChannelSet {
     numbers: Words<WORDS>,
+}
+
+// Equal sets are equal values. By hand, since a derive has no clause of its own, and every caller of `==` gets this one.
+impl PartialEq for ChannelSet {
+    ghost eq = { λ a b. pointwise ◌==◌ a.numbers.words b.numbers.words };
+
+    ghost laws = { Prim.search (comparing, rules) };
+
+    fn eq(&self, other: &ChannelSet) -> bool
+        ensures value { result ≡ ⟦<ChannelSet as PartialEq>⟧.eq self.now other.now }
+        ensures decides { Decides result (self.now ≡ other.now) }
+    {
+        self.numbers == other.numbers
+    }
+}
+
+impl Eq for ChannelSet {
+    ghost laws = { Prim.search (comparing, rules) };
 }
 
 // What the calls are made of: each works on words, and says by the view what it does.

@@ -1,9 +1,10 @@
 // Calls as they are read.
-use crate::nest::Nest;
+use crate::nest::{Nest, licensed};
 use crate::plain::Plain;
 use crate::words::{Unread, channels, cut, length, number, octets};
 use channels::ChannelSet;
 use packing::Range;
+use piles::licence::Licence;
 use std::alloc::Global;
 use std::str::FromStr;
 
@@ -18,9 +19,12 @@ pub enum SetCall {
     Size,
 }
 
-// A pile by its name, in which up to four of the words beside and licence stand around one another. A type that contains itself
-// by a `Box` would have no such bound, and would do again what `Beside` and `Licence` do, since these hold their parts by value.
-pub type Named = Nest<Nest<Nest<Nest<Plain>>>>;
+// Plain piles, in which up to two of the words beside and licence stand around one another. A type that contains itself by a `Box`
+// would have no such bound, and would do again what `Beside` and `Licence` do, since these hold their parts by value.
+pub type Shape = Nest<Nest<Plain>>;
+
+// A pile by its name, held to a licence or not.
+pub type Named = Nest<Shape>;
 
 // What a pile is asked.
 #[derive(PartialEq, Eq, Debug, Drop)]
@@ -79,19 +83,56 @@ fn slots(text: &str) -> Result<Call, Unread> {
     Ok(Call::Slots(range(width)?, length(len)?))
 }
 
+// Of the piles in which three are nested, those that are answered: the others are no calls of this program.
+fn is_answered(shape: &Shape) -> bool {
+    let Nest::Beside(pair) = shape else {
+        return matches!(shape, Nest::Alone(Nest::Alone(_)));
+    };
+    match (&pair.first, &pair.second) {
+        (Nest::Alone(_), Nest::Alone(_)) => true,
+        (Nest::Beside(two), Nest::Alone(_)) => {
+            matches!(two.first, Plain::Range128(_)) && matches!(two.second, Plain::Standard(_))
+        }
+        (Nest::Licence(held), Nest::Alone(_)) => matches!(held.pile, Plain::Variable(_)),
+        (Nest::Alone(Plain::Variable(_)), Nest::Beside(two)) => {
+            matches!(two.first, Plain::Standard(_)) && matches!(two.second, Plain::Range512(_))
+        }
+        _ => false,
+    }
+}
+
+fn shape(text: &str) -> Result<Shape, Unread> {
+    let shape = text.parse()?;
+    if is_answered(&shape) {
+        Ok(shape)
+    } else {
+        Err(Unread::Call)
+    }
+}
+
+fn named(text: &str) -> Result<Named, Unread> {
+    match licensed(text)? {
+        Some((allowed, pile)) => {
+            let pile = shape(pile)?;
+            Ok(Nest::Licence(Licence { allowed, pile }))
+        }
+        None => Ok(Nest::Alone(shape(text)?)),
+    }
+}
+
 fn claims(text: &str) -> Result<Call, Unread> {
-    Ok(Call::Pile(text.parse()?, PileCall::Claims))
+    Ok(Call::Pile(named(text)?, PileCall::Claims))
 }
 
 fn read(heap: Global, text: &str) -> Result<Call, Unread> {
     let (pile, contents) = cut(text, " ")?;
-    Ok(Call::Pile(pile.parse()?, PileCall::Read(octets(heap, contents)?)))
+    Ok(Call::Pile(named(pile)?, PileCall::Read(octets(heap, contents)?)))
 }
 
 fn write(text: &str) -> Result<Call, Unread> {
     let (pile, rest) = cut(text, " ")?;
     let (len, set) = cut(rest, " ")?;
-    Ok(Call::Pile(pile.parse()?, PileCall::Write(length(len)?, channels(set)?)))
+    Ok(Call::Pile(named(pile)?, PileCall::Write(length(len)?, channels(set)?)))
 }
 
 pub fn parse(heap: Global, text: &str) -> Result<Call, Unread> {

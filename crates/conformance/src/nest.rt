@@ -39,6 +39,15 @@ fn halves(text: &str) -> Result<(&str, &str), Unread> {
     text.split_once(outer_comma).ok_or(Unread::Call)
 }
 
+// The channels of a licence and the name of what is held to it, where a name begins so.
+pub fn licensed(text: &str) -> Result<Option<(ChannelSet, &str)>, Unread> {
+    let Some(parts) = inside(text, "licence(") else {
+        return Ok(None);
+    };
+    let (channels, pile) = cut(parts, ",")?;
+    Ok(Some((spans(channels)?, pile)))
+}
+
 impl<P: FromStr<Err = Unread> + Drop> FromStr for Nest<P> {
     type Err = Unread;
 
@@ -49,9 +58,7 @@ impl<P: FromStr<Err = Unread> + Drop> FromStr for Nest<P> {
             let second = second.parse()?;
             return Ok(Nest::Beside(Beside { first, second }));
         }
-        if let Some(parts) = inside(text, "licence(") {
-            let (channels, pile) = cut(parts, ",")?;
-            let allowed = spans(channels)?;
+        if let Some((allowed, pile)) = licensed(text)? {
             let pile = pile.parse()?;
             return Ok(Nest::Licence(Licence { allowed, pile }));
         }

@@ -5,20 +5,29 @@ ghost use Rattle.notation.specs.Told.{name_of};
 use channels::ChannelSet;
 use claims::Claims;
 use faults::{Fault, Refusal};
-use notation::hex::Hex;
+use notation::hex;
 use notation::told::layer_name;
 use std::alloc::{AllocError, Global};
+use std::fmt;
 
 // The word for no channels and for no octets.
 pub const NONE: &str = "-";
 
 // Channels with a blank between two.
-fn spaced(heap: Global, channels: &[u16]) -> Result<String, AllocError> {
-    let words: Vec<String> = channels
-        .iter()
-        .map(|c| c.to_string(heap))
-        .try_collect(heap)?;
-    words.as_slice().join(heap, " ")
+#[derive(Clone, Copy)]
+struct Spaced<'a>(&'a [u16]);
+
+impl fmt::Display for Spaced<'_> {
+    fn fmt<W: fmt::Write>(&self, f: &mut fmt::Formatter<W>) -> fmt::Result {
+        let Some((first, others)) = self.0.split_first() else {
+            return Ok(());
+        };
+        write!(f, "{first}")?;
+        for c in others {
+            write!(f, " {c}")?;
+        }
+        Ok(())
+    }
 }
 
 pub fn channels(heap: Global, set: &ChannelSet) -> Result<String, AllocError> {
@@ -27,7 +36,7 @@ pub fn channels(heap: Global, set: &ChannelSet) -> Result<String, AllocError> {
     if count == 0 {
         return String::from_str(heap, NONE);
     }
-    spaced(heap, &channels[0..count])
+    Spaced(&channels[0..count]).to_string(heap)
 }
 
 // Two digits for each octet.
@@ -35,7 +44,7 @@ pub fn octets(heap: Global, octets: &[u8]) -> Result<String, AllocError> {
     if octets.is_empty() {
         return String::from_str(heap, NONE);
     }
-    Hex(octets).to_string(heap)?.as_str().replace(heap, ' ', "")
+    hex::write(heap, octets)?.as_str().replace(heap, ' ', "")
 }
 
 // All octets claimed, rising.

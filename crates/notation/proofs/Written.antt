@@ -1,5 +1,5 @@
 -- What `{:02X}` and `{:04X}` write.
-use Rattle.std.proofs.Common.{◌≡◌, ℕ, suc, ◌-◌, ◌/◌, ◌%◌, ◌^◌, ◌<◌, ◌≤◌, true, false, List, [], ◌∷◌, ap, ◌∙◌, ⊎_elim, arith}
+use Rattle.std.proofs.Common.{◌≡◌, ℕ, suc, ◌-◌, ◌/◌, ◌%◌, ◌^◌, ◌<◌, ◌≤◌, true, false, List, [], ◌∷◌, ◌++◌, append_assoc, ap, ◌∙◌, ⊎_elim, arith}
 use Rattle.std.specs.Fmt.{digits, digits_onto, digit_glyph, char_count, padded_integral, format_spec}
 use Rattle.std.proofs.lemmas.Bool.{cases_lt, cond-true, cond-false, eq-eqb, ne_eqb}
 use Rattle.std.proofs.lemmas.Fmt.{hex_one_digit, hex_two_digits, hex_byte}
@@ -64,3 +64,7 @@ hex_code n small =
     (λ four. rw (four_digits n four small))
     (cases_lt n 4096))
     (cases_lt n 256)
+
+-- two characters more
+pub two_more : (s a b : List ℕ) (x y : ℕ) → a ≡ x ∷ [] → b ≡ y ∷ [] → (s ++ a) ++ b ≡ s ++ (x ∷ y ∷ [])
+two_more s a b x y p q = append_assoc s a b ∙ (λ i. s ++ (p i ++ q i))

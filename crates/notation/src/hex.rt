@@ -8,7 +8,7 @@ ghost use Rattle.notation.specs.Hex.{Read};
 ghost use Rattle.notation.specs.Texts.{hex_char, code_text, cell_text, octet_text, hex_text};
 
 use crate::{Cell, Expected, WordFault};
-use std::alloc::{AllocFailed, Global};
+use std::alloc::{AllocError, AllocFailed, Global};
 use std::fmt;
 
 const SPACE: u8 = b' ';
@@ -77,6 +77,48 @@ impl fmt::Display for Hex<'_> {
         }
         Ok(())
     }
+}
+
+// The number of the digit A.
+const TEN: u8 = 10;
+
+// The upper-case digit of a number below 16.
+fn hex_char(d: u8) -> char
+    requires { d < 16 }
+    ensures value { result ≡ hex_char d }
+    ensures spelt { encode result ≡ hex_char d ∷ [] }
+{
+    if d < TEN {
+        (b'0' + d) as char
+    } else {
+        (b'A' + (d - TEN)) as char
+    }
+}
+
+// Puts the two digits of an octet behind a text.
+fn push_octet(text: &mut String, o: u8) -> Result<(), AllocError>
+    ensures { OnOk result (string_bytes text.new ≡ string_bytes text.old ++ octet_text o) }
+{
+    text.push(hex_char(o / 16))?;
+    text.push(hex_char(o % 16))?;
+    Ok(())
+}
+
+// Octets as a text of their own: what `Hex` prints. Put there digit by digit, since an octet that goes through a formatter costs some
+// four times as much.
+pub fn write(heap: Global, octets: &[u8]) -> Result<String, AllocError>
+    ensures { IfOk result (λ s. string_bytes s ≡ hex_text octets.now) }
+{
+    let mut text = String::new(heap);
+    let Some((first, others)) = octets.split_first() else {
+        return Ok(text);
+    };
+    push_octet(&mut text, *first)?;
+    for o in others {
+        text.push(' ')?;
+        push_octet(&mut text, *o)?;
+    }
+    Ok(text)
 }
 
 // Why a text gives no octets.

@@ -2,6 +2,7 @@
 use Rattle.std.specs.Prelude.{ℕ, zero, suc, ◌+◌, ◌-◌, Bool, if◌then◌else◌, not, ◌&&◌, List, [], ◌∷◌, length, take, drop, Some, None, Option, ◌==◌}
 use Rattle.std.specs.List.{prefix_len}
 use Rattle.notation.specs.Octets.{blank}
+use Rattle.plans.specs.declared.Word.{Word}
 use Rattle.plans.specs.Pieces.{Piece}
 
 -- neither blank nor the beginning of a comment
@@ -21,6 +22,10 @@ word bs a b = record { start = a; text = take (b - a) (drop a bs) }
 
 abbrev pub end_of : Piece → ℕ
 end_of w = w.start + length w.text
+
+-- where a word stands
+abbrev pub place_of : Piece → Word
+place_of w = record { start = w.start; end = end_of w }
 
 -- the first word from a place on
 unfoldable pub next_word : List ℕ → ℕ → Option Piece

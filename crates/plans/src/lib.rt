@@ -14,6 +14,13 @@ use channels::ChannelSet;
 use faults::SetFault;
 use notation::{Cell, Expected};
 
+// Where a word of a line stands: the places of its first byte and of the byte after its last.
+#[derive(Clone, Copy, Debug, PartialEq, Eq)]
+pub struct Word {
+    pub start: usize,
+    pub end: usize,
+}
+
 // What is wrong in a line.
 #[derive(Clone, Copy, Debug, PartialEq, Eq)]
 pub enum Why {

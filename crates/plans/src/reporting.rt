@@ -8,9 +8,8 @@ use crate::reading::parse;
 use crate::{Answer, Complaint, Entry, Trial, Verdict, Why, plural};
 use channels::ChannelSet;
 use faults::{Fault, PileFault};
-use notation::hex::Hex;
-use notation::lists;
 use notation::told::Told;
+use notation::{hex, lists};
 use piles::Pile;
 use std::alloc::{AllocError, Global};
 use std::fmt;
@@ -40,7 +39,7 @@ fn likeness(same: bool) -> &'static str
 fn composed(heap: Global, trial: &Trial, channels: &ChannelSet) -> Result<String, AllocError>
     ensures { IfOk result (λ s. (trial.now.back ≡ channels.now → string_bytes s ≡ composed_text trial.now.octets channels.now)) }
 {
-    let octets = Hex(&trial.octets);
+    let octets = hex::write(heap, &trial.octets)?;
     let back = lists::write(heap, &trial.back)?;
     let same = likeness(trial.back == *channels);
     format!(in heap; "  composed in 16 octets: {octets}\n  read back: {back}, {same}\n")

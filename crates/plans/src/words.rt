@@ -5,7 +5,7 @@ ghost use Rattle.std.specs.Iterator.{YieldsFirst, item_count};
 ghost use Rattle.std.specs.List.{prefix_len};
 ghost use Rattle.channels.specs.Sets.{Changed};
 ghost use Rattle.notation.specs.Octets.{blank};
-ghost use Rattle.plans.specs.Words.{solid, end_of, words_of};
+ghost use Rattle.plans.specs.Words.{solid, end_of, place_of, words_of};
 ghost use Rattle.plans.specs.Lines.{Inside, placed, cell_in, with_span, add_in, Taken};
 
 use crate::{Complaint, Why};
@@ -60,11 +60,13 @@ impl<'a> Model for Word<'a> {
 }
 
 impl<'a> Word<'a> {
-    // The place behind the word.
-    fn end(&self) -> usize
-        ensures { result ≡ end_of self.now }
+    // Where the word stands.
+    pub fn place(&self) -> crate::Word
+        ensures { result ≡ place_of self.now }
     {
-        self.start + self.text.len()
+        let start = self.start;
+        let end = start + self.text.len();
+        crate::Word { start, end }
     }
 
     // What was read of the word's bytes, with a fault at its place in the line. How far a complaint may reach is said at each
@@ -74,8 +76,7 @@ impl<'a> Word<'a> {
         ensures value { result ≡ placed self.now read }
         ensures within { IfErr result (Inside (end_of self.now)) }
     {
-        let start = self.start;
-        let end = self.end();
+        let crate::Word { start, end } = self.place();
         // written out, here and in `add_to`: of a closure that captures a word whole nothing is inferred
         read.map_err(|fault| Complaint {
             start: start + fault.offset,
@@ -95,11 +96,11 @@ impl<'a> Word<'a> {
     // Adds the channels that the word names; a refusal leaves the set.
     pub fn add_to(&self, set: &mut ChannelSet) -> Result<(), Complaint>
         ensures value { Taken (add_in set.old self.now) result set.new }
+        ensures stands { IfErr result (λ _. set.new ≡ set.old) }
         ensures within { IfErr result (Inside (end_of self.now)) }
     {
         let span = self.placed(Span::try_from(self.text))?;
-        let start = self.start;
-        let end = self.end();
+        let crate::Word { start, end } = self.place();
         add_span(set, span).map_err(|fault| Complaint {
             start,
             end,

@@ -182,3 +182,20 @@ impl<'a> Tree<'a> {
         }
     }
 }
+
+// F(place) of the tree of width k in a table, for any width: none where it is over 10 either. The laws are those of the method.
+pub fn number(table: &[u16], k: u32, place: usize) -> Option<u16>
+    ensures value { result ≡ number_at table.now k place }
+    ensures laws { Reading }
+{
+    lawful();
+    Tree::new(table, k).ok()?.number(place)
+}
+
+// F(1), F(2), .. of the tree of width k in a table, for any width, as many as out has room for.
+pub fn numbers(table: &[u16], k: u32, out: &mut [u16]) -> Result<(), TreeFault>
+    ensures answer { result ≡ answer table.now k (length out.old) }
+    ensures after { MatchResult result (λ _. Read table.now k out.new) (λ _. out.new ≡ out.old) }
+{
+    Tree::new(table, k)?.numbers(out)
+}

@@ -1,7 +1,5 @@
 use Rattle.std.proofs.Common.{ap, ◌∙◌}
 use Rattle.std.proofs.lemmas.Result.{IfOk-weaker}
-use Rattle.channels.proofs.Views.{words_decide}
-use Rattle.notation.specs.Texts.{hex_text}
 use Rattle.plans.specs.Reports.{channel_text, likeness_text, composed_of, composed_text}
 use Rattle.plans.proofs.reporting.composed.Goals as goal
 
@@ -10,5 +8,5 @@ unfolding composed_text channel_text
 returns c =
     IfOk-weaker c.format.result _ _
     (λ s e alike. e
-    ∙ (λ i. composed_of (hex_text c.args.trial.now.octets) ((c.in_ok-back.ensures ∙ ap channel_text alike) i) ((c.likeness-same.ensures ∙ ap likeness_text ((words_decide _ _ _ c.eq.ensures).1 alike)) i)))
+    ∙ (λ i. composed_of (c.in_ok-octets.ensures i) ((c.in_ok-back.ensures ∙ ap channel_text alike) i) ((c.likeness-same.ensures ∙ ap likeness_text (c.eq.ensures.decides.1 alike)) i)))
     c.format.ensures.ok
