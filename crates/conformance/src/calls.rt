@@ -83,7 +83,7 @@ fn slots(text: &str) -> Result<Call, Unread> {
     Ok(Call::Slots(range(width)?, length(len)?))
 }
 
-// Of the piles in which three are nested, those that are answered: the others are no calls of this program.
+// Plain piles and two beside one another are answered, and some in which three are nested; what else can be read is no call of this program.
 fn is_answered(shape: &Shape) -> bool {
     let Nest::Beside(pair) = shape else {
         return matches!(shape, Nest::Alone(Nest::Alone(_)));
