@@ -13,7 +13,7 @@ use std::fmt;
 // The word for no channels and for no octets.
 pub const NONE: &str = "-";
 
-// Channels with a blank between two.
+// Channels with a blank between two, each on its own: `Ranges` of crate notation prints neighbours as one.
 #[derive(Clone, Copy)]
 struct Spaced<'a>(&'a [u16]);
 
